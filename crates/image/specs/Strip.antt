@@ -65,17 +65,18 @@ abbrev pub next : ℕ → ℕ → ℕ → List ℕ → Verdict Next
 next at reels blocks xs =
     cond (eqb (length xs) 0 && (ltb 0 reels && eqb blocks 0)) (Ok Finished) (check-whole at reels blocks xs)
 
--- What a strip is judged to be, word by word: `reels` and the blocks `reel` of the next reel have been read, and `xs` are the bytes from
--- the place `at` on. At most `words` words are read.
+-- Where the reading goes on behind a word: `reels` and the blocks `reel` of the next reel have been read, and `xs` are the bytes from the place
+-- `at` on. `rest` judges what follows.
+abbrev pub follow : (TapeSet → Reel → ℕ → List ℕ → Verdict TapeSet) → TapeSet → Reel → ℕ → List ℕ → Verdict Next → Verdict TapeSet
+follow rest reels reel at xs (Err e) = Err e
+follow rest reels reel at xs (Ok Finished) = Ok reels
+follow rest reels reel at xs (Ok ReelEnds) = rest (reels ++ reel ∷ []) [] (at + 4) (drop 4 xs)
+follow rest reels reel at xs (Ok (Holds s)) = rest reels (reel ++ block s (drop 4 xs) ∷ []) (at + size s) (drop (size s) xs)
+
+-- What a strip is judged to be, word by word, of which at most `words` are read.
 abbrev pub judge : ℕ → TapeSet → Reel → ℕ → List ℕ → Verdict TapeSet
 judge zero reels reel at xs = Err (1, at)
-judge (suc words) reels reel at xs =
-    elim (next at (length reels) (length reel) xs) [
-      Err e ↦ Err e
-    | Ok Finished ↦ Ok reels
-    | Ok ReelEnds ↦ judge words (reels ++ reel ∷ []) [] (at + 4) (drop 4 xs)
-    | Ok (Holds s) ↦ judge words reels (reel ++ block s (drop 4 xs) ∷ []) (at + size s) (drop (size s) xs)
-    ]
+judge (suc words) reels reel at xs = follow (judge words) reels reel at xs (next at (length reels) (length reel) xs)
 
 -- Each word takes four bytes, so there are enough words.
 abbrev pub verdict : List ℕ → Verdict TapeSet
