@@ -1,2 +1,3 @@
 pub mod Words
 pub mod Strips
+pub mod Scans

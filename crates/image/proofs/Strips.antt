@@ -290,10 +290,10 @@ size-sort (written bytes) = simp length-append (omega arith)
 size-sort mark = refl
 size-sort bad = refl
 
-size-some : (b : Block) → 1 ≤ size (sort b)
-size-some (written bytes) = omega arith
-size-some mark = lit≤ tt
-size-some bad = lit≤ tt
+sort-some : (b : Block) → 1 ≤ size (sort b)
+sort-some (written bytes) = omega arith
+sort-some mark = lit≤ tt
+sort-some bad = lit≤ tt
 
 pub block-sort : (b : Block) (ys : List ℕ) → block (sort b) (drop 4 (block-bytes b ++ ys)) ≡ b
 block-sort (written bytes) ys = ap written (ap (take (length bytes)) (append-assoc bytes (word (length bytes)) ys) ∙ take-at bytes (word (length bytes) ++ ys) (length bytes) refl)
@@ -324,7 +324,7 @@ judge-reads (suc words) reels reel (b ∷ todo) rest at s l r f w =
     let ys = strip-left todo rest in
     let split : strip-left (b ∷ todo) rest ≡ block-bytes b ++ ys = append-assoc (block-bytes b) (joined block-bytes todo) (word 4294967294 ++ encoded rest) in
     let grown : length (reel ++ b ∷ []) + length todo ≤ 65535 = simp length-append (omega arith) in
-    let some : 1 ≤ size (sort b) = size-some b in
+    let some : 1 ≤ size (sort b) = sort-some b in
     let fewer : length ys < words = omega (arith, ap length split, length-append (block-bytes b) ys, size-sort b) in
     ap (judge (suc words) reels reel at) split
       ∙ judge-block words reels reel at b ys (omega arith) (omega arith) (s .0)

@@ -1,2 +1,4 @@
 pub mod Stored
 pub mod Strip
+pub mod Chart
+pub mod Scan

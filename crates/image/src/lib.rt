@@ -1,5 +1,7 @@
 // The two stored images of a tape set, each a deck.
-mod refusal;
-mod stored;
+mod chart;
 mod next;
+mod refusal;
+mod scan;
+mod stored;
 mod word;
