@@ -1,3 +1,5 @@
+pub mod Options
 pub mod Words
 pub mod Strips
 pub mod Scans
+pub mod Places

@@ -111,8 +111,7 @@ going-finished xs c blocks at b g n =
     let is : verdict xs ≡ Ok (g .reels) = sym (u .2) in
     let meant-is : meant xs ≡ g .reels = ap set-of is in
     record {
-      judged = is ∙ ap Ok (sym meant-is);
-      spells = ap encoded meant-is ∙ judged-spells xs (g .reels) b is;
+      reads = record { judged = is ∙ ap Ok (sym meant-is); spells = ap encoded meant-is ∙ judged-spells xs (g .reels) b is };
       charted = subst (λ s. Charts s c) (sym meant-is) (g .charted);
     }
 

@@ -2,3 +2,4 @@ pub mod Stored
 pub mod Strip
 pub mod Chart
 pub mod Scan
+pub mod Cursor

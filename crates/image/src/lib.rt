@@ -1,5 +1,6 @@
 // The two stored images of a tape set, each a deck.
 mod chart;
+mod cursor;
 mod next;
 mod refusal;
 mod scan;
