@@ -3,3 +3,4 @@ pub mod Words
 pub mod Strips
 pub mod Scans
 pub mod Places
+pub mod Openings

@@ -3,3 +3,4 @@ pub mod Strip
 pub mod Chart
 pub mod Scan
 pub mod Cursor
+pub mod Opened

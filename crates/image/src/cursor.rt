@@ -1,6 +1,6 @@
 // A place on a strip, and the way to the next place and to the one before.
 ghost use mathlib.Core.Path.{_≡_};
-ghost use Prim.Native.Nat.{_+_, _<_};
+ghost use Prim.Native.Nat.{_+_, _≤_, _<_};
 ghost use lib.ListN.{length, getD};
 ghost use mathlib.Core.List.{[]};
 ghost use Rattle.image.specs.Cursor.{Reads, Stands, stored-at};
@@ -58,5 +58,47 @@ fn back(bytes: &[u8], c: Cursor) -> Cursor
         reel: c.reel,
         block: c.block - 1,
         at: c.at - block.size(),
+    }
+}
+
+// On to a later block of the reel, or to its end.
+fn wind_on(bytes: &[u8], from: Cursor, block: u32) -> Cursor
+    requires strip { ⌜ Reads (now bytes) ⌝ }
+    requires stands { ⌜ Stands (now bytes) from ⌝ }
+    requires later { ⌜ from .block ≤ block ⌝ ∗ ⌜ block ≤ length (getD (meant (now bytes)) (from .reel) []) ⌝ }
+    ensures { λ r. ⌜ Stands (now (bytes .entry)) r ⌝ ∗ ⌜ r .reel ≡ from .reel ⌝ ∗ ⌜ r .block ≡ block ⌝ }
+{
+    let mut c = from;
+    while c.block < block {
+        c = on(bytes, c);
+    }
+    c
+}
+
+// Back to an earlier block of the reel.
+fn wind_back(bytes: &[u8], from: Cursor, block: u32) -> Cursor
+    requires strip { ⌜ Reads (now bytes) ⌝ }
+    requires stands { ⌜ Stands (now bytes) from ⌝ }
+    requires earlier { ⌜ block ≤ from .block ⌝ }
+    ensures { λ r. ⌜ Stands (now (bytes .entry)) r ⌝ ∗ ⌜ r .reel ≡ from .reel ⌝ ∗ ⌜ r .block ≡ block ⌝ }
+{
+    let mut c = from;
+    while c.block > block {
+        c = back(bytes, c);
+    }
+    c
+}
+
+// To a block of the reel, or to its end, over the blocks between.
+pub fn wind(bytes: &[u8], from: Cursor, block: u32) -> Cursor
+    requires strip { ⌜ Reads (now bytes) ⌝ }
+    requires stands { ⌜ Stands (now bytes) from ⌝ }
+    requires there { ⌜ block ≤ length (getD (meant (now bytes)) (from .reel) []) ⌝ }
+    ensures { λ r. ⌜ Stands (now (bytes .entry)) r ⌝ ∗ ⌜ r .reel ≡ from .reel ⌝ ∗ ⌜ r .block ≡ block ⌝ }
+{
+    if from.block < block {
+        wind_on(bytes, from, block)
+    } else {
+        wind_back(bytes, from, block)
     }
 }

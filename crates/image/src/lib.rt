@@ -5,4 +5,5 @@ mod next;
 mod refusal;
 mod scan;
 mod stored;
+pub mod strip;
 mod word;

@@ -30,3 +30,10 @@ pub struct Refusal {
     pub cause: Cause,
     pub offset: usize,
 }
+
+// Bytes that were refused, handed back with the refusal.
+#[derive(Drop)]
+pub struct Unopened {
+    pub refusal: Refusal,
+    pub bytes: Vec<u8>,
+}

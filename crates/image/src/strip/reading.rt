@@ -1,0 +1,1 @@
+// The strip as a deck.
