@@ -16,7 +16,7 @@ use Rattle.std.specs.declared.result.Result.{Result}
 use Rattle.std.specs.declared.result.Result.the-variants.{Ok, Err}
 use Rattle.deck.specs.Tape.{Block, written, mark, bad, Reel, TapeSet, Sound, SoundBlock, SoundBlocks, SoundReels}
 use Rattle.deck.specs.Words.{word, value}
-use Rattle.image.specs.Stored.{Verdict, stored, block}
+use Rattle.image.specs.Stored.{Verdict, stored, block, stored-as}
 use Rattle.image.specs.Strip.{block-bytes, reel-bytes, encoded, size, next, check-closed, check-kind, check-word, check-whole, follow, judge, verdict}
 use Rattle.image.specs.declared.stored.Stored.{Stored}
 use Rattle.image.specs.declared.stored.Stored.the-variants.{Record, Mark, Bad}
@@ -239,12 +239,7 @@ judged-sound xs set e = means (length xs + 1) set [] [] 0 xs nothing-read e .sou
 pub judged-spells : (xs : List ℕ) (set : TapeSet) → Bytes xs → verdict xs ≡ Ok set → encoded set ≡ xs
 judged-spells xs set b e = sym (means (length xs + 1) set [] [] 0 xs nothing-read e .spells b)
 
--- How a block is stored, and that it is read back.
-abbrev pub sort : Block → Stored
-sort (written bytes) = Record (length bytes)
-sort mark = Mark
-sort bad = Bad
-
+-- A block that is stored is read back.
 passes : (at reels blocks : ℕ) (xs : List ℕ) → reels < 9 → 4 ≤ length xs → next at reels blocks xs ≡ check-word at blocks (value xs) xs
 passes at reels blocks xs r l = grind (arith, tells)
 
@@ -280,37 +275,37 @@ next-written at reels blocks bytes ys r b l u =
       ∙ word-record at blocks n xs b l u
       ∙ closing-record at n xs (omega arith) closes
 
-pub next-block : (at reels blocks : ℕ) (b : Block) (ys : List ℕ) → reels < 9 → blocks < 65535 → SoundBlock b → next at reels blocks (block-bytes b ++ ys) ≡ Ok (Holds (sort b))
+pub next-block : (at reels blocks : ℕ) (b : Block) (ys : List ℕ) → reels < 9 → blocks < 65535 → SoundBlock b → next at reels blocks (block-bytes b ++ ys) ≡ Ok (Holds (stored-as b))
 next-block at reels blocks (written bytes) ys r l s = next-written at reels blocks bytes ys r l (s .0) (s .1)
 next-block at reels blocks mark ys r l s = passes at reels blocks (word 0 ++ ys) r (omega arith) ∙ room at blocks Mark (word 0 ++ ys) l
 next-block at reels blocks bad ys r l s = passes at reels blocks (word 4294967295 ++ ys) r (omega arith) ∙ room at blocks Bad (word 4294967295 ++ ys) l
 
-pub size-sort : (b : Block) → size (sort b) ≡ length (block-bytes b)
-size-sort (written bytes) = simp length-append (omega arith)
-size-sort mark = refl
-size-sort bad = refl
+pub size-of : (b : Block) → size (stored-as b) ≡ length (block-bytes b)
+size-of (written bytes) = simp length-append (omega arith)
+size-of mark = refl
+size-of bad = refl
 
-sort-some : (b : Block) → 1 ≤ size (sort b)
-sort-some (written bytes) = omega arith
-sort-some mark = lit≤ tt
-sort-some bad = lit≤ tt
+stored-some : (b : Block) → 1 ≤ size (stored-as b)
+stored-some (written bytes) = omega arith
+stored-some mark = lit≤ tt
+stored-some bad = lit≤ tt
 
-pub block-sort : (b : Block) (ys : List ℕ) → block (sort b) (drop 4 (block-bytes b ++ ys)) ≡ b
-block-sort (written bytes) ys = ap written (ap (take (length bytes)) (append-assoc bytes (word (length bytes)) ys) ∙ take-at bytes (word (length bytes) ++ ys) (length bytes) refl)
-block-sort mark ys = refl
-block-sort bad ys = refl
+pub block-of : (b : Block) (ys : List ℕ) → block (stored-as b) (drop 4 (block-bytes b ++ ys)) ≡ b
+block-of (written bytes) ys = ap written (ap (take (length bytes)) (append-assoc bytes (word (length bytes)) ys) ∙ take-at bytes (word (length bytes) ++ ys) (length bytes) refl)
+block-of mark ys = refl
+block-of bad ys = refl
 
 -- What is left of a strip behind some of its blocks.
 abbrev pub strip-left : Reel → TapeSet → List ℕ
 strip-left todo rest = joined block-bytes todo ++ (word 4294967294 ++ encoded rest)
 
-judge-block : (words : ℕ) (reels : TapeSet) (reel : Reel) (at : ℕ) (b : Block) (ys : List ℕ) → length reels < 9 → length reel < 65535 → SoundBlock b → judge (suc words) reels reel at (block-bytes b ++ ys) ≡ judge words reels (reel ++ b ∷ []) (at + size (sort b)) ys
+judge-block : (words : ℕ) (reels : TapeSet) (reel : Reel) (at : ℕ) (b : Block) (ys : List ℕ) → length reels < 9 → length reel < 65535 → SoundBlock b → judge (suc words) reels reel at (block-bytes b ++ ys) ≡ judge words reels (reel ++ b ∷ []) (at + size (stored-as b)) ys
 judge-block words reels reel at b ys r l s =
     let xs = block-bytes b ++ ys in
-    let rest : drop (size (sort b)) xs ≡ ys = drop-at (block-bytes b) ys (size (sort b)) (sym (size-sort b)) in
+    let rest : drop (size (stored-as b)) xs ≡ ys = drop-at (block-bytes b) ys (size (stored-as b)) (sym (size-of b)) in
     ap (follow (judge words) reels reel at xs) (next-block at (length reels) (length reel) b ys r l s)
-      ∙ ap (λ c. judge words reels (reel ++ c ∷ []) (at + size (sort b)) (drop (size (sort b)) xs)) (block-sort b ys)
-      ∙ ap (judge words reels (reel ++ b ∷ []) (at + size (sort b))) rest
+      ∙ ap (λ c. judge words reels (reel ++ c ∷ []) (at + size (stored-as b)) (drop (size (stored-as b)) xs)) (block-of b ys)
+      ∙ ap (judge words reels (reel ++ b ∷ []) (at + size (stored-as b))) rest
 
 judge-end : (words : ℕ) (reels : TapeSet) (reel : Reel) (at : ℕ) (ys : List ℕ) → length reels < 9 → judge (suc words) reels reel at (word 4294967294 ++ ys) ≡ judge words (reels ++ reel ∷ []) [] (at + 4) ys
 judge-end words reels reel at ys r = ap (follow (judge words) reels reel at (word 4294967294 ++ ys)) (next-end at (length reels) (length reel) ys r)
@@ -324,11 +319,11 @@ judge-reads (suc words) reels reel (b ∷ todo) rest at s l r f w =
     let ys = strip-left todo rest in
     let split : strip-left (b ∷ todo) rest ≡ block-bytes b ++ ys = append-assoc (block-bytes b) (joined block-bytes todo) (word 4294967294 ++ encoded rest) in
     let grown : length (reel ++ b ∷ []) + length todo ≤ 65535 = simp length-append (omega arith) in
-    let some : 1 ≤ size (sort b) = sort-some b in
-    let fewer : length ys < words = omega (arith, ap length split, length-append (block-bytes b) ys, size-sort b) in
+    let some : 1 ≤ size (stored-as b) = stored-some b in
+    let fewer : length ys < words = omega (arith, ap length split, length-append (block-bytes b) ys, size-of b) in
     ap (judge (suc words) reels reel at) split
       ∙ judge-block words reels reel at b ys (omega arith) (omega arith) (s .0)
-      ∙ judge-reads words reels (reel ++ b ∷ []) todo rest (at + size (sort b)) (s .1) grown r f fewer
+      ∙ judge-reads words reels (reel ++ b ∷ []) todo rest (at + size (stored-as b)) (s .1) grown r f fewer
       ∙ ap (λ t. Ok (reels ++ t ∷ rest)) (append-assoc reel (b ∷ []) todo)
 judge-reads (suc zero) reels reel [] rest at s l r f w = absurd (omega arith)
 judge-reads (suc (suc words)) reels reel [] [] at s l r f w =

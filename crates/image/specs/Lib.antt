@@ -3,4 +3,5 @@ pub mod Strip
 pub mod Chart
 pub mod Scan
 pub mod Cursor
+pub mod Found
 pub mod Opened

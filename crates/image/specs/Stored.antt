@@ -3,7 +3,7 @@ use mathlib.Core.Bool.{cond}
 use mathlib.Core.List.{List, []}
 use Prim.Native.Nat.{ℕ, _≤_}
 use lib.Dec.{eqb, leb}
-use lib.ListN.{take}
+use lib.ListN.{length, take}
 use Rattle.std.specs.declared.option.Option.{Option}
 use Rattle.std.specs.declared.option.Option.the-variants.{Some, None}
 use Rattle.std.specs.declared.result.Result.{Result}
@@ -44,6 +44,12 @@ abbrev pub block : Stored → List ℕ → Block
 block (Record n) xs = written (take n xs)
 block Mark xs = mark
 block Bad xs = bad
+
+-- How a block is stored.
+abbrev pub stored-as : Block → Stored
+stored-as (written bytes) = Record (length bytes)
+stored-as mark = Mark
+stored-as bad = Bad
 
 -- A record within the limit of its length.
 abbrev pub Short : Stored → Type 0

@@ -1,6 +1,7 @@
 // The two stored images of a tape set, each a deck.
 mod chart;
 mod cursor;
+mod found;
 mod next;
 mod refusal;
 mod scan;

@@ -22,6 +22,7 @@ pub struct Strip {
     cursor: Cursor,
     ghost judged: { isOk (verdict (vec-items bytes)) ≡ true },
     ghost spells: { encoded (meant (vec-items bytes)) ≡ vec-items bytes },
+    ghost few: { chart .reels ≤ 9 },
     ghost many: { chart .reels ≡ length (meant (vec-items bytes)) },
     ghost starts: { (i : ℕ) → i ≤ length (meant (vec-items bytes)) → getD (chart .starts) i 0 ≡ length (encoded (take i (meant (vec-items bytes)))) },
     ghost counts: { (i : ℕ) → i < length (meant (vec-items bytes)) → getD (chart .counts) i 0 ≡ length (getD (meant (vec-items bytes)) i []) },

@@ -7,13 +7,13 @@ use Rattle.deck.specs.Tape.{mark}
 use Rattle.image.specs.Cursor.{Stands}
 use Rattle.image.specs.Strip.{size, meant}
 use Rattle.image.proofs.Options.{none-some, some-same}
-use Rattle.image.proofs.Places.{stands-behind, sort-size}
+use Rattle.image.proofs.Places.{stands-behind, size-four}
 use Rattle.image.proofs.cursor.back.Needs as need
 
 pub sub-c : need.sub-c
 sub-c c =
     let o = stands-behind (c .args .bytes .now) (c .args .c) (c .pre .strip) (c .pre .stands) (c .pre .behind-start) in
-    omega (arith, o .fits, sort-size (getD (getD (meant (c .args .bytes .now)) (c .args .c .reel) []) (c .args .c .block - 1) mark))
+    omega (arith, o .fits, size-four (getD (getD (meant (c .args .bytes .now)) (c .args .c .reel) []) (c .args .c .block - 1) mark))
 
 pub unreachable-requires : need.unreachable-requires
 unreachable-requires c κs = none-some (c .in-rest .is) (c .block-at .ensures) (stands-behind (c .args .bytes .now) (c .args .c) (c .pre .strip) (c .pre .stands) (c .pre .behind-start) .kind)
