@@ -1,0 +1,4 @@
+pub mod Faults
+pub mod Layouts
+pub mod Records
+pub mod Directories
