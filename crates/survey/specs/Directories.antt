@@ -1,5 +1,5 @@
 -- The values of a directory. Letters and digits are ASCII.
-use mathlib.Core.Bool.{Bool, true, false, cond, _&&_}
+use mathlib.Core.Bool.{Bool, true, cond, _&&_}
 use mathlib.Core.List.{List}
 use Prim.Native.Nat.{ℕ, _+_, _/_, _%_}
 use lib.Dec.{eqb}
@@ -11,15 +11,16 @@ use Rattle.survey.specs.Layouts.{record-length}
 use Rattle.survey.specs.Records.{byte}
 use Rattle.survey.specs.declared.layout.Correction.{Correction}
 use Rattle.survey.specs.declared.layout.Correction.the-variants.{Corrected, Uncorrected}
+use Rattle.survey.specs.declared.layout.Form.{Form}
+use Rattle.survey.specs.declared.layout.Form.the-variants.{Interleaved, Sequential, Vidicon}
 use Rattle.survey.specs.declared.layout.Layout.{Layout}
-use Rattle.survey.specs.declared.layout.Order.{Order}
-use Rattle.survey.specs.declared.layout.Order.the-variants.{ByLine, ByBand}
-use Rattle.survey.specs.declared.layout.Sensor.{Sensor}
-use Rattle.survey.specs.declared.layout.Sensor.the-variants.{Mss, Rbv}
 
--- The sensor by its letter, M or R.
-abbrev pub sensor-of : ℕ → Option Sensor
-sensor-of b = cond (eqb b 77) (Some Mss) (cond (eqb b 82) (Some Rbv) None)
+-- The form by the sensor's letter, M or R, and the order's byte, 255 or 0.
+abbrev pub form-of : ℕ → ℕ → Option Form
+form-of letter order =
+    cond (eqb letter 77)
+      (cond (eqb order 255) (Some Interleaved) (cond (eqb order 0) (Some Sequential) None))
+      (cond (eqb letter 82) (cond (eqb order 0) (Some Vidicon) None) None)
 
 -- The mission by its digit, 1 to 3.
 abbrev pub mission-of : ℕ → Option ℕ
@@ -29,33 +30,22 @@ mission-of b = cond (eqb b 49) (Some 1) (cond (eqb b 50) (Some 2) (cond (eqb b 5
 abbrev pub correction-of : ℕ → Option Correction
 correction-of b = cond (eqb b 80) (Some Corrected) (cond (eqb b 65) (Some Uncorrected) None)
 
--- The order of lines: 255 interleaved by line, 0 band after band.
-abbrev pub order-of : ℕ → Option Order
-order-of b = cond (eqb b 255) (Some ByLine) (cond (eqb b 0) (Some ByBand) None)
+-- The vidicon needs mission 3.
+abbrev pub allowed : Form → ℕ → Bool
+allowed Interleaved mission = true
+allowed Sequential mission = true
+allowed Vidicon mission = eqb mission 3
 
-abbrev pub by-band : Order → Bool
-by-band ByLine = false
-by-band ByBand = true
+-- The layout of three values, if each is one.
+abbrev pub layout-by : Option Form → Option ℕ → Option Correction → Option Layout
+layout-by (Some f) (Some m) (Some c) = cond (allowed f m) (Some record { form = f; mission = m; correction = c }) None
+layout-by None m c = None
+layout-by (Some f) None c = None
+layout-by (Some f) (Some m) None = None
 
--- RBV needs mission 3, and is not interleaved.
-abbrev pub allowed-for : Sensor → ℕ → Order → Bool
-allowed-for Mss mission order = true
-allowed-for Rbv mission order = eqb mission 3 && by-band order
-
-abbrev pub allowed : Layout → Bool
-allowed l = allowed-for (l .sensor) (l .mission) (l .order)
-
--- The layout of four values, if each is one.
-abbrev pub layout-by : Option Sensor → Option ℕ → Option Correction → Option Order → Option Layout
-layout-by (Some s) (Some m) (Some c) (Some o) = cond (allowed-for s m o) (Some record { sensor = s; mission = m; correction = c; order = o }) None
-layout-by None m c o = None
-layout-by (Some s) None c o = None
-layout-by (Some s) (Some m) None o = None
-layout-by (Some s) (Some m) (Some c) None = None
-
--- The layout that a directory names: its sensor in byte 9, its mission in byte 8, its correction in byte 11, its order in byte 31.
+-- The layout that a directory names: its form in bytes 9 and 31, its mission in byte 8, its correction in byte 11.
 abbrev pub layout-of : List ℕ → Option Layout
-layout-of xs = layout-by (sensor-of (byte xs 9)) (mission-of (byte xs 8)) (correction-of (byte xs 11)) (order-of (byte xs 31))
+layout-of xs = layout-by (form-of (byte xs 9) (byte xs 31)) (mission-of (byte xs 8)) (correction-of (byte xs 11))
 
 -- Bytes 21 to 26 are blanks.
 abbrev pub blank : List ℕ → Bool
@@ -71,8 +61,8 @@ fixed xs l reels =
       && (eqb (byte xs 20) (48 + reels)
       && (blank xs
       && (eqb (byte xs 30) 237
-      && (eqb (byte xs 32) (record-length (l .sensor) / 256)
-      && eqb (byte xs 33) (record-length (l .sensor) % 256)))))))
+      && (eqb (byte xs 32) (record-length (l .form) / 256)
+      && eqb (byte xs 33) (record-length (l .form) % 256)))))))
 
 -- The layout that a first directory names, where its other values are in order.
 abbrev pub named : List ℕ → ℕ → Option Layout → Option Layout

@@ -2,22 +2,21 @@
 ghost use mathlib.Core.Path.{_≡_};
 ghost use Prim.Native.Nat.{_≤_, _+_};
 ghost use lib.ListN.{length};
-ghost use Rattle.survey.specs.Directories.{sensor-of, mission-of, correction-of, order-of, allowed, layout-of, blank, fixed, first-directory, same-directory};
+ghost use Rattle.survey.specs.Directories.{form-of, mission-of, correction-of, allowed, layout-of, blank, fixed, first-directory, same-directory};
 use super::layout::Correction;
+use super::layout::Form;
 use super::layout::Layout;
-use super::layout::Order;
-use super::layout::OrderPartialEq;
-use super::layout::Sensor;
 
 // The length of a directory.
 pub const DIRECTORY_LENGTH: usize = 360;
 
-fn sensor_of(letter: u8) -> Option<Sensor>
-    ensures { λ r. ⌜ r ≡ sensor-of letter ⌝ }
+fn form_of(letter: u8, order: u8) -> Option<Form>
+    ensures { λ r. ⌜ r ≡ form-of letter order ⌝ }
 {
-    match letter {
-        b'M' => Some(Sensor::Mss),
-        b'R' => Some(Sensor::Rbv),
+    match (letter, order) {
+        (b'M', 255) => Some(Form::Interleaved),
+        (b'M', 0) => Some(Form::Sequential),
+        (b'R', 0) => Some(Form::Vidicon),
         _ => None,
     }
 }
@@ -43,23 +42,14 @@ fn correction_of(letter: u8) -> Option<Correction>
     }
 }
 
-fn order_of(byte: u8) -> Option<Order>
-    ensures { λ r. ⌜ r ≡ order-of byte ⌝ }
+// Vidicon pictures came from the third mission alone.
+fn allowed(form: Form, mission: u8) -> bool
+    ensures { λ r. ⌜ r ≡ allowed form mission ⌝ }
 {
-    match byte {
-        255 => Some(Order::ByLine),
-        0 => Some(Order::ByBand),
-        _ => None,
-    }
-}
-
-// RBV pictures came from the third mission alone, and their lines are of one band.
-fn allowed(layout: Layout) -> bool
-    ensures { λ r. ⌜ r ≡ allowed layout ⌝ }
-{
-    match layout.sensor {
-        Sensor::Mss => true,
-        Sensor::Rbv => layout.mission == 3 && layout.order == Order::ByBand,
+    match form {
+        Form::Interleaved => true,
+        Form::Sequential => true,
+        Form::Vidicon => mission == 3,
     }
 }
 
@@ -69,12 +59,15 @@ fn layout_of(bytes: &[u8]) -> Option<Layout>
     ensures { λ r. ⌜ r ≡ layout-of (now (bytes .entry)) ⌝ }
 {
     let layout = Layout {
-        sensor: sensor_of(bytes[8])?,
+        form: form_of(bytes[8], bytes[30])?,
         mission: mission_of(bytes[7])?,
         correction: correction_of(bytes[10])?,
-        order: order_of(bytes[30])?,
     };
-    if allowed(layout) { Some(layout) } else { None }
+    if allowed(layout.form, layout.mission) {
+        Some(layout)
+    } else {
+        None
+    }
 }
 
 // A number from 0 to 9 as its digit.
@@ -98,7 +91,7 @@ fn fixed(bytes: &[u8], layout: Layout, reels: u32) -> bool
     requires few { ⌜ reels ≤ 9 ⌝ }
     ensures { λ r. ⌜ r ≡ fixed (now (bytes .entry)) layout reels ⌝ }
 {
-    let size = layout.record_length();
+    let size = layout.form.record_length();
     bytes[6] == b'L'
         && bytes[9] == b'C'
         && bytes[18] == b'1'

@@ -1,6 +1,6 @@
 // What the first directory says of a set: which layout it follows.
 ghost use mathlib.Core.Path.{_≡_};
-ghost use Rattle.survey.specs.Layouts.{record-length, ancillaries, annotations, stride, order-byte};
+ghost use Rattle.survey.specs.Layouts.{sensor-in, record-length, order-byte, ancillaries, annotations, stride};
 
 // The instrument: the multispectral scanner or the return beam vidicon.
 #[derive(Clone, Copy, PartialEq, Eq, Debug)]
@@ -9,43 +9,68 @@ pub enum Sensor {
     Rbv,
 }
 
+// Whose lines a set holds, and in which order: the scanner's with the bands interleaved line by line, the scanner's band after band, or
+// the vidicon's, of which a set has one band.
+#[derive(Clone, Copy, PartialEq, Eq, Debug)]
+pub enum Form {
+    Interleaved,
+    Sequential,
+    Vidicon,
+}
+
 #[derive(Clone, Copy, PartialEq, Eq, Debug)]
 pub enum Correction {
     Corrected,
     Uncorrected,
 }
 
-// How lines follow each other: the lines of all bands together (interleaved by line), or band after band. An RBV set has one band.
-#[derive(Clone, Copy, PartialEq, Eq, Debug)]
-pub enum Order {
-    ByLine,
-    ByBand,
-}
-
 #[derive(Clone, Copy, PartialEq, Eq, Debug)]
 pub struct Layout {
-    pub sensor: Sensor,
+    pub form: Form,
     pub mission: u8,
     pub correction: Correction,
-    pub order: Order,
 }
 
-impl Layout {
-    // The length of every record but a directory.
-    pub fn record_length(self) -> usize
-        ensures { λ r. ⌜ r ≡ record-length (self .sensor) ⌝ }
+impl Form {
+    pub fn sensor(self) -> Sensor
+        ensures { λ r. ⌜ r ≡ sensor-in self ⌝ }
     {
-        match self.sensor {
-            Sensor::Mss => 3596,
-            Sensor::Rbv => 5388,
+        match self {
+            Form::Interleaved => Sensor::Mss,
+            Form::Sequential => Sensor::Mss,
+            Form::Vidicon => Sensor::Rbv,
         }
     }
 
+    // The length of every record but a directory.
+    pub fn record_length(self) -> usize
+        ensures { λ r. ⌜ r ≡ record-length self ⌝ }
+    {
+        match self {
+            Form::Interleaved => 3596,
+            Form::Sequential => 3596,
+            Form::Vidicon => 5388,
+        }
+    }
+
+    // The byte by which directory and header tell the order of lines.
+    pub fn order_byte(self) -> u8
+        ensures { λ r. ⌜ r ≡ order-byte self ⌝ }
+    {
+        match self {
+            Form::Interleaved => 255,
+            Form::Sequential => 0,
+            Form::Vidicon => 0,
+        }
+    }
+}
+
+impl Layout {
     // How many ancillary records follow a header.
     pub fn ancillaries(self) -> u32
         ensures { λ r. ⌜ r ≡ ancillaries self ⌝ }
     {
-        match (self.correction, self.sensor) {
+        match (self.correction, self.form.sensor()) {
             (Correction::Corrected, _) => 0,
             (Correction::Uncorrected, Sensor::Mss) => 26,
             (Correction::Uncorrected, Sensor::Rbv) => 30,
@@ -67,17 +92,5 @@ impl Layout {
         ensures { λ r. ⌜ r ≡ stride self ⌝ }
     {
         if self.mission == 3 { 5 } else { 4 }
-    }
-}
-
-impl Order {
-    // The byte by which directory and header tell the order.
-    pub fn byte(self) -> u8
-        ensures { λ r. ⌜ r ≡ order-byte self ⌝ }
-    {
-        match self {
-            Order::ByLine => 255,
-            Order::ByBand => 0,
-        }
     }
 }
