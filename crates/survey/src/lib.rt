@@ -1,5 +1,7 @@
 // The survey of a tape set: whether it obeys the layout of EDIPS scene tapes, and where its records lie.
 mod directory;
 mod fault;
+mod header;
 mod layout;
+mod machine;
 mod record;

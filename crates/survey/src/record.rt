@@ -2,6 +2,7 @@
 ghost use mathlib.Core.Path.{_≡_};
 ghost use Prim.Native.Nat.{_≤_};
 ghost use lib.ListN.{length};
+ghost use Rattle.std.specs.Vec.{made};
 ghost use Rattle.survey.specs.Records.{has-number, checked, recorded};
 use super::fault::RecordFault;
 
@@ -25,7 +26,8 @@ fn numbered(bytes: &[u8], number: u32) -> bool
 // A record's length, fifth byte, type and number, in that order.
 pub(crate) fn check(bytes: &[u8], size: usize, kind: u8, number: u32) -> Result<(), RecordFault>
     requires { ⌜ 6 ≤ size ⌝ }
-    ensures { λ r. ⌜ recorded r ≡ checked (now (bytes .entry)) size kind number ⌝ }
+    ensures says { λ r. ⌜ recorded r ≡ checked (now (bytes .entry)) size kind number ⌝ }
+    ensures long { λ r. ⌜ made r (λ _. length (now (bytes .entry)) ≡ size) ⌝ }
 {
     if bytes.len() != size {
         return Err(RecordFault::Length);
