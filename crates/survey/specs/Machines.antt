@@ -11,11 +11,12 @@ use Rattle.std.specs.declared.result.Result.{Result}
 use Rattle.std.specs.declared.result.Result.the-variants.{Ok, Err}
 use Rattle.deck.specs.Tape.{Block, written, mark, bad}
 use Rattle.survey.specs.Directories.{first-directory, same-directory}
-use Rattle.survey.specs.Faults.{number}
+use Rattle.survey.specs.Faults.{set-number, number}
 use Rattle.survey.specs.Headers.{header}
 use Rattle.survey.specs.Layouts.{record-length, ancillaries, annotations, stride}
 use Rattle.survey.specs.Records.{byte, checked}
 use Rattle.survey.specs.declared.fault.Cause.{Cause}
+use Rattle.survey.specs.declared.fault.SetFault.{SetFault}
 use Rattle.survey.specs.declared.header.Content.{Content}
 use Rattle.survey.specs.declared.header.Content.the-variants.{One, Mixed}
 use Rattle.survey.specs.declared.header.Header.{Header}
@@ -53,6 +54,10 @@ abbrev pub stepped : Result (Unit {0}) Cause → Machine → Result Machine ℕ
 stepped (Ok u) m = Ok m
 stepped (Err c) m = Err (number c)
 
+abbrev pub set-stepped : Result (Unit {0}) SetFault → Machine → Result Machine ℕ
+set-stepped (Ok u) m = Ok m
+set-stepped (Err f) m = Err (set-number f)
+
 abbrev pub block-of : Seen → Option Block
 block-of (seens.Record r) = Some (written (r .now))
 block-of seens.Mark = Some mark
@@ -66,3 +71,43 @@ passed (Some n) r = Err n
 
 abbrev pub size : Machine → ℕ
 size m = record-length (m .layout .form)
+
+-- A directory: the first names the layout; a later one equals it in all but its reel's digit, which is checked last.
+abbrev pub first : Machine → Onward → List ℕ → Option Layout → Result Machine ℕ
+first m on xs None = Err 31
+first m on xs (Some l) = Ok (expecting (headed-by m xs l) (expects.DirectoryMark on))
+
+abbrev pub later : Machine → Place → Onward → List ℕ → Result Machine ℕ
+later m at on xs =
+    cond (same-directory (m .directory) xs)
+      (cond (eqb (byte xs 19) (48 + at .reel)) (Ok (expecting m (expects.DirectoryMark on))) (Err 31))
+      (Err 32)
+
+abbrev pub on-directory : Machine → Place → Onward → List ℕ → Result Machine ℕ
+on-directory m at on xs =
+    passed (checked xs 360 9 1) (cond (eqb (at .reel) 1) (first m on xs (first-directory xs (m .reels))) (later m at on xs))
+
+-- The band of the last header, or 0 behind none.
+abbrev pub band-of : Content → ℕ
+band-of (One c) = c
+band-of (Mixed mask) = 0
+
+-- A header begins a group.
+abbrev pub fresh : Header → Place → Group
+fresh h at = record { content = h .content; trailers = h .trailers; header = at; trailer = at; blocks = 0; through = replicate 9 0 }
+
+abbrev pub begun : Machine → Place → Result Header ℕ → Result Machine ℕ
+begun m at (Ok h) = Ok (expecting (grouped m (fresh h at)) (expects.Attribute 2))
+begun m at (Err n) = Err n
+
+abbrev pub on-header : Machine → Place → List ℕ → Result Machine ℕ
+on-header m at xs = passed (checked xs (size m) 18 1) (begun m at (header xs (m .layout) (band-of (m .group .content))))
+
+-- Ancillary records, then annotation records; all are numbered on from the header.
+abbrev pub attributes : Machine → ℕ
+attributes m = 1 + ancillaries (m .layout) + annotations (m .layout .correction)
+
+abbrev pub on-attribute : Machine → ℕ → List ℕ → Result Machine ℕ
+on-attribute m n xs =
+    passed (checked xs (size m) (cond (leb n (1 + ancillaries (m .layout))) 36 219) n)
+      (Ok (expecting m (cond (ltb n (attributes m)) (expects.Attribute (n + 1)) expects.AttributeMark)))

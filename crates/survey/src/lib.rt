@@ -5,3 +5,4 @@ mod header;
 mod layout;
 mod machine;
 mod record;
+mod step;

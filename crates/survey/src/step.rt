@@ -1,0 +1,107 @@
+// One block more: what the machine does with each, by what it expects.
+ghost use mathlib.Core.Path.{_≡_};
+ghost use Prim.Native.Nat.{_≤_};
+ghost use lib.ListN.{length};
+ghost use Rattle.survey.specs.Directories.{first-directory};
+ghost use Rattle.survey.specs.Machines.{stepped, set-stepped, first, later, on-directory, on-header, on-attribute};
+use super::directory::DIRECTORY_LENGTH;
+use super::directory::digit;
+use super::directory::first_directory;
+use super::directory::same_directory;
+use super::fault::Cause;
+use super::fault::CauseFromRecord;
+use super::fault::CauseFromSet;
+use super::fault::SetFault;
+use super::header::Content;
+use super::header::read_header;
+use super::machine::Expect;
+use super::machine::Group;
+use super::machine::Machine;
+use super::machine::Onward;
+use super::machine::Place;
+use super::record::ANCILLARY;
+use super::record::ANNOTATION;
+use super::record::DIRECTORY;
+use super::record::HEADER;
+use super::record::check;
+
+impl Machine {
+    fn first(&mut self, bytes: &[u8], onward: Onward) -> Result<(), SetFault>
+        requires long { ⌜ length (now bytes) ≡ 360 ⌝ }
+        requires few { ⌜ now self .reels ≤ 9 ⌝ }
+        ensures { λ r. ⌜ set-stepped r (now (self .exit)) ≡ first (now (self .entry)) onward (now (bytes .entry)) (first-directory (now (bytes .entry)) (now (self .entry) .reels)) ⌝ }
+    {
+        let Some(layout) = first_directory(bytes, self.reels) else {
+            return Err(SetFault::Directory);
+        };
+        self.directory.copy_from_slice(bytes);
+        self.layout = layout;
+        self.expect = Expect::DirectoryMark(onward);
+        Ok(())
+    }
+
+    fn later(&mut self, at: Place, bytes: &[u8], onward: Onward) -> Result<(), SetFault>
+        requires long { ⌜ length (now bytes) ≡ 360 ⌝ }
+        requires kept { ⌜ length (now self .directory) ≡ 360 ⌝ }
+        requires few { ⌜ at .reel ≤ 9 ⌝ }
+        ensures { λ r. ⌜ set-stepped r (now (self .exit)) ≡ later (now (self .entry)) at onward (now (bytes .entry)) ⌝ }
+    {
+        if !same_directory(&self.directory, bytes) {
+            return Err(SetFault::OtherDirectory);
+        }
+        if bytes[18] != digit(at.reel) {
+            return Err(SetFault::Directory);
+        }
+        self.expect = Expect::DirectoryMark(onward);
+        Ok(())
+    }
+
+    fn directory(&mut self, at: Place, bytes: &[u8], onward: Onward) -> Result<(), Cause>
+        requires kept { ⌜ length (now self .directory) ≡ 360 ⌝ }
+        requires few { ⌜ now self .reels ≤ 9 ⌝ ∗ ⌜ at .reel ≤ 9 ⌝ }
+        ensures { λ r. ⌜ stepped r (now (self .exit)) ≡ on-directory (now (self .entry)) at onward (now (bytes .entry)) ⌝ }
+    {
+        check(bytes, DIRECTORY_LENGTH, DIRECTORY, 1)?;
+        if at.reel == 1 {
+            self.first(bytes, onward)?;
+        } else {
+            self.later(at, bytes, onward)?;
+        }
+        Ok(())
+    }
+
+    fn header(&mut self, at: Place, bytes: &[u8]) -> Result<(), Cause>
+        ensures { λ r. ⌜ stepped r (now (self .exit)) ≡ on-header (now (self .entry)) at (now (bytes .entry)) ⌝ }
+    {
+        check(bytes, self.layout.form.record_length(), HEADER, 1)?;
+        let last = match self.group.content {
+            Content::One(band) => band,
+            Content::Mixed(_) => 0,
+        };
+        let header = read_header(bytes, self.layout, last)?;
+        self.group = Group {
+            content: header.content,
+            trailers: header.trailers,
+            header: at,
+            trailer: at,
+            blocks: 0,
+            through: [0; 9],
+        };
+        self.expect = Expect::Attribute(2);
+        Ok(())
+    }
+
+    fn attribute(&mut self, number: u32, bytes: &[u8]) -> Result<(), Cause>
+        ensures { λ r. ⌜ stepped r (now (self .exit)) ≡ on-attribute (now (self .entry)) number (now (bytes .entry)) ⌝ }
+    {
+        let ancillaries = self.layout.ancillaries();
+        let kind = if number <= 1 + ancillaries { ANCILLARY } else { ANNOTATION };
+        check(bytes, self.layout.form.record_length(), kind, number)?;
+        self.expect = if number < 1 + ancillaries + self.layout.annotations() {
+            Expect::Attribute(number + 1)
+        } else {
+            Expect::AttributeMark
+        };
+        Ok(())
+    }
+}
