@@ -111,3 +111,82 @@ abbrev pub on-attribute : Machine → ℕ → List ℕ → Result Machine ℕ
 on-attribute m n xs =
     passed (checked xs (size m) (cond (leb n (1 + ancillaries (m .layout))) 36 219) n)
       (Ok (expecting m (cond (ltb n (attributes m)) (expects.Attribute (n + 1)) expects.AttributeMark)))
+
+-- Every byte is zero.
+abbrev pub all-zero : List ℕ → Bool
+all-zero [] = true
+all-zero (x ∷ xs) = eqb x 0 && all-zero xs
+
+-- The image blocks that a file may have: 8,192 lines, of each of the mission's bands where they are interleaved.
+abbrev pub most-blocks : Form → ℕ → ℕ
+most-blocks Interleaved bands = 8192 * bands
+most-blocks Sequential bands = 8192
+most-blocks Vidicon bands = 8192
+
+-- The bit of the band at a place, counted from 0, among 4 to 8.
+abbrev pub weight : ℕ → ℕ
+weight place = cond (eqb place 0) 16 (cond (eqb place 1) 8 (cond (eqb place 2) 4 (cond (eqb place 3) 2 1)))
+
+abbrev pub present : ℕ → ℕ → Bool
+present mask place = eqb (mask / weight place % 2) 1
+
+-- The next image block is of a band that is not present.
+abbrev pub missing : Content → ℕ → ℕ → Bool
+missing (One c) blocks bands = false
+missing (Mixed mask) blocks bands = not (present mask (blocks % bands))
+
+-- One image block more on a reel.
+abbrev pub one-more : Group → ℕ → Group
+one-more g reel = record {
+  content = g .content;
+  trailers = g .trailers;
+  header = g .header;
+  trailer = g .trailer;
+  blocks = g .blocks + 1;
+  through = set (g .through) (reel - 1) (g .blocks + 1);
+}
+
+-- A line: not one too many, and of a missing band only where every byte of its body is zero.
+abbrev pub line : Machine → Place → Bool → Result Machine ℕ
+line m at zero =
+    cond (leb (most-blocks (m .layout .form) (stride (m .layout))) (m .group .blocks)) (Err 35)
+      (cond (missing (m .group .content) (m .group .blocks) (stride (m .layout)) && not zero) (Err 36)
+        (Ok (expecting (grouped m (one-more (m .group) (at .reel))) expects.Image)))
+
+abbrev pub on-image : Machine → Place → List ℕ → Result Machine ℕ
+on-image m at xs = passed (checked xs (size m) 237 (m .group .blocks + 1)) (line m at (all-zero (drop 6 xs)))
+
+-- A bad block is a line, and not that of a missing band.
+abbrev pub on-bad-line : Machine → Place → Result Machine ℕ
+on-bad-line m at = line m at false
+
+-- At the first trailer the image file is over: its lines are whole, and as many as those of the first band.
+abbrev pub lines-agree : Form → ℕ → ℕ → ℕ → ℕ → Bool
+lines-agree Interleaved bands groups first-blocks blocks = eqb (blocks % bands) 0
+lines-agree Sequential bands groups first-blocks blocks = eqb groups 0 || eqb blocks first-blocks
+lines-agree Vidicon bands groups first-blocks blocks = true
+
+abbrev pub no-group : Group
+no-group = record { content = One 0; trailers = 0; header = record { reel = 0; block = 0 }; trailer = record { reel = 0; block = 0 }; blocks = 0; through = [] }
+
+abbrev pub trailed : Group → Place → Group
+trailed g at = record { content = g .content; trailers = g .trailers; header = g .header; trailer = at; blocks = g .blocks; through = g .through }
+
+abbrev pub behind-trailer : Machine → ℕ → Expect
+behind-trailer m n = cond (ltb n (m .group .trailers)) (expects.Trailer (n + 1)) expects.TrailerMark
+
+abbrev pub trailing : Machine → Place → Result Machine ℕ
+trailing m at =
+    cond (lines-agree (m .layout .form) (stride (m .layout)) (m .groups) (getD (m .table) 0 no-group .blocks) (m .group .blocks))
+      (Ok (expecting (grouped m (trailed (m .group) at)) (behind-trailer m 1)))
+      (Err 35)
+
+abbrev pub on-first-trailer : Machine → Place → List ℕ → Result Machine ℕ
+on-first-trailer m at xs = passed (checked xs (size m) 246 1) (trailing m at)
+
+abbrev pub on-trailer : Machine → ℕ → List ℕ → Result Machine ℕ
+on-trailer m n xs = passed (checked xs (size m) 246 n) (Ok (expecting m (behind-trailer m n)))
+
+-- Behind a break in or behind an image file the record's type tells whether the file goes on.
+abbrev pub on-resumed : Machine → Place → List ℕ → Result Machine ℕ
+on-resumed m at xs = cond (eqb (byte xs 6) 246) (on-first-trailer m at xs) (on-image m at xs)

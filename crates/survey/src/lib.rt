@@ -2,6 +2,7 @@
 mod directory;
 mod fault;
 mod header;
+mod image;
 mod layout;
 mod machine;
 mod record;
