@@ -11,11 +11,12 @@ use Rattle.std.specs.declared.result.Result.{Result}
 use Rattle.std.specs.declared.result.Result.the-variants.{Ok, Err}
 use Rattle.deck.specs.Tape.{Block, written, mark, bad}
 use Rattle.survey.specs.Directories.{first-directory, same-directory}
-use Rattle.survey.specs.Faults.{set-number, number}
+use Rattle.survey.specs.Faults.{deck-number, set-number, number}
 use Rattle.survey.specs.Headers.{header}
 use Rattle.survey.specs.Layouts.{record-length, ancillaries, annotations, stride}
 use Rattle.survey.specs.Records.{byte, checked}
 use Rattle.survey.specs.declared.fault.Cause.{Cause}
+use Rattle.survey.specs.declared.fault.DeckFault.{DeckFault}
 use Rattle.survey.specs.declared.fault.SetFault.{SetFault}
 use Rattle.survey.specs.declared.header.Content.{Content}
 use Rattle.survey.specs.declared.header.Content.the-variants.{One, Mixed}
@@ -63,6 +64,23 @@ block-of (seens.Record r) = Some (written (r .now))
 block-of seens.Mark = Some mark
 block-of seens.Bad = Some bad
 block-of seens.Absent = None
+
+-- The faults of the deck's layer and of the record layer, where a block is not expected.
+abbrev pub decked : Result (Unit {0}) DeckFault → Option ℕ
+decked (Ok u) = None
+decked (Err f) = Some (deck-number f)
+
+abbrev pub deck-says : Option Block → Option ℕ
+deck-says None = Some 11
+deck-says (Some bad) = Some 12
+deck-says (Some mark) = None
+deck-says (Some (written xs)) = None
+
+abbrev pub record-says : Option Block → Option ℕ
+record-says None = None
+record-says (Some bad) = None
+record-says (Some mark) = Some 21
+record-says (Some (written xs)) = Some 22
 
 -- Go on where a record has passed its checks.
 abbrev pub passed : Option ℕ → Result Machine ℕ → Result Machine ℕ
@@ -190,3 +208,104 @@ on-trailer m n xs = passed (checked xs (size m) 246 n) (Ok (expecting m (behind-
 -- Behind a break in or behind an image file the record's type tells whether the file goes on.
 abbrev pub on-resumed : Machine → Place → List ℕ → Result Machine ℕ
 on-resumed m at xs = cond (eqb (byte xs 6) 246) (on-first-trailer m at xs) (on-image m at xs)
+
+-- A second mark ends a reel. Behind an image file more must come; behind a trailer file more may come only where bands follow each other.
+-- The last reel of several has a third mark.
+abbrev pub ends-in-image : Machine → Place → Result Machine ℕ
+ends-in-image m at = cond (ltb (at .reel) (m .reels)) (Ok (expecting m (expects.End onwards.Image))) (Err 37)
+
+abbrev pub goes-on : Form → Machine → Result Machine ℕ
+goes-on Interleaved m = Err 37
+goes-on Sequential m = Ok (expecting m (expects.End onwards.Header))
+goes-on Vidicon m = Err 37
+
+abbrev pub ends-behind-trailer : Machine → Place → Result Machine ℕ
+ends-behind-trailer m at =
+    cond (ltb (at .reel) (m .reels)) (goes-on (m .layout .form) m)
+      (Ok (expecting m (cond (eqb (m .reels) 1) (expects.End onwards.Nothing) expects.LastMark)))
+
+-- Behind the mark of a trailer file a record is the next header, where bands follow each other.
+abbrev pub next-group : Form → Machine → Place → List ℕ → Result Machine ℕ
+next-group Interleaved m at xs = Err 22
+next-group Sequential m at xs = on-header m at xs
+next-group Vidicon m at xs = Err 22
+
+-- What stands behind a directory's mark.
+abbrev pub onward-expect : Onward → Expect
+onward-expect onwards.Header = expects.Header
+onward-expect onwards.Image = expects.Resumed
+onward-expect onwards.Nothing = expects.Header
+
+-- A record comes.
+abbrev pub on-record : Expect → Machine → Place → List ℕ → Result Machine ℕ
+on-record (expects.Directory on) m at xs = on-directory m at on xs
+on-record (expects.DirectoryMark on) m at xs = Err 22
+on-record expects.Header m at xs = on-header m at xs
+on-record (expects.Attribute n) m at xs = on-attribute m n xs
+on-record expects.AttributeMark m at xs = Err 22
+on-record expects.FirstImage m at xs = on-image m at xs
+on-record expects.Image m at xs = on-image m at xs
+on-record expects.BehindImage m at xs = on-first-trailer m at xs
+on-record expects.Resumed m at xs = on-resumed m at xs
+on-record (expects.Trailer n) m at xs = on-trailer m n xs
+on-record expects.TrailerMark m at xs = Err 22
+on-record expects.BehindTrailer m at xs = next-group (m .layout .form) m at xs
+on-record expects.LastMark m at xs = Err 22
+on-record (expects.End on) m at xs = Err 38
+
+-- A mark comes.
+abbrev pub on-mark : Expect → Machine → Place → Result Machine ℕ
+on-mark (expects.Directory on) m at = Err 21
+on-mark (expects.DirectoryMark on) m at = Ok (expecting m (onward-expect on))
+on-mark expects.Header m at = Err 21
+on-mark (expects.Attribute n) m at = Err 21
+on-mark expects.AttributeMark m at = Ok (expecting m expects.FirstImage)
+on-mark expects.FirstImage m at = Err 21
+on-mark expects.Image m at = Ok (expecting m expects.BehindImage)
+on-mark expects.BehindImage m at = ends-in-image m at
+on-mark expects.Resumed m at = Err 21
+on-mark (expects.Trailer n) m at = Err 21
+on-mark expects.TrailerMark m at = Ok (expecting (closed m) expects.BehindTrailer)
+on-mark expects.BehindTrailer m at = ends-behind-trailer m at
+on-mark expects.LastMark m at = Ok (expecting m (expects.End onwards.Nothing))
+on-mark (expects.End on) m at = Err 38
+
+-- A bad block comes.
+abbrev pub on-bad : Expect → Machine → Place → Result Machine ℕ
+on-bad (expects.Directory on) m at = Err 12
+on-bad (expects.DirectoryMark on) m at = Err 12
+on-bad expects.Header m at = Err 12
+on-bad (expects.Attribute n) m at = Err 12
+on-bad expects.AttributeMark m at = Err 12
+on-bad expects.FirstImage m at = on-bad-line m at
+on-bad expects.Image m at = on-bad-line m at
+on-bad expects.BehindImage m at = Err 12
+on-bad expects.Resumed m at = on-bad-line m at
+on-bad (expects.Trailer n) m at = Err 12
+on-bad expects.TrailerMark m at = Err 12
+on-bad expects.BehindTrailer m at = Err 12
+on-bad expects.LastMark m at = Err 12
+on-bad (expects.End on) m at = Err 38
+
+-- No block comes: the reel has no more.
+abbrev pub on-absent : Expect → Machine → Result Machine ℕ
+on-absent (expects.Directory on) m = Err 11
+on-absent (expects.DirectoryMark on) m = Err 11
+on-absent expects.Header m = Err 11
+on-absent (expects.Attribute n) m = Err 11
+on-absent expects.AttributeMark m = Err 11
+on-absent expects.FirstImage m = Err 11
+on-absent expects.Image m = Err 11
+on-absent expects.BehindImage m = Err 11
+on-absent expects.Resumed m = Err 11
+on-absent (expects.Trailer n) m = Err 11
+on-absent expects.TrailerMark m = Err 11
+on-absent expects.BehindTrailer m = Err 11
+on-absent expects.LastMark m = Err 11
+on-absent (expects.End on) m = Ok (expecting m (expects.Directory on))
+
+abbrev pub step : Machine → Place → Option Block → Result Machine ℕ
+step m at None = on-absent (m .expect) m
+step m at (Some (written xs)) = on-record (m .expect) m at xs
+step m at (Some mark) = on-mark (m .expect) m at
+step m at (Some bad) = on-bad (m .expect) m at

@@ -3,22 +3,28 @@ ghost use mathlib.Core.Path.{_≡_};
 ghost use Prim.Native.Nat.{_≤_};
 ghost use lib.ListN.{length};
 ghost use Rattle.survey.specs.Directories.{first-directory};
-ghost use Rattle.survey.specs.Machines.{stepped, set-stepped, first, later, on-directory, on-header, on-attribute};
+ghost use Rattle.survey.specs.Records.{recorded};
+ghost use Rattle.survey.specs.Machines.{stepped, set-stepped, block-of, decked, deck-says, record-says, first, later, on-directory, on-header, on-attribute, next-group, ends-in-image, ends-behind-trailer, expecting, closed, step};
 use super::directory::DIRECTORY_LENGTH;
 use super::directory::digit;
 use super::directory::first_directory;
 use super::directory::same_directory;
 use super::fault::Cause;
+use super::fault::CauseFromDeck;
 use super::fault::CauseFromRecord;
 use super::fault::CauseFromSet;
+use super::fault::DeckFault;
+use super::fault::RecordFault;
 use super::fault::SetFault;
 use super::header::Content;
 use super::header::read_header;
+use super::layout::Form;
 use super::machine::Expect;
 use super::machine::Group;
 use super::machine::Machine;
 use super::machine::Onward;
 use super::machine::Place;
+use super::machine::Seen;
 use super::record::ANCILLARY;
 use super::record::ANNOTATION;
 use super::record::DIRECTORY;
@@ -103,5 +109,76 @@ impl Machine {
             Expect::AttributeMark
         };
         Ok(())
+    }
+
+    // Behind the mark of a trailer file a record is the next header, where bands follow each other.
+    fn next_group(&mut self, at: Place, bytes: &[u8]) -> Result<(), Cause>
+        ensures { λ r. ⌜ stepped r (now (self .exit)) ≡ next-group (now (self .entry) .layout .form) (now (self .entry)) at (now (bytes .entry)) ⌝ }
+    {
+        match self.layout.form {
+            Form::Interleaved => Err(Cause::Record(RecordFault::RecordForMark)),
+            Form::Sequential => self.header(at, bytes),
+            Form::Vidicon => Err(Cause::Record(RecordFault::RecordForMark)),
+        }
+    }
+
+    // A second mark behind an image file: the reel is over, and another goes on.
+    fn end_in_image(&mut self, at: Place) -> Result<(), SetFault>
+        ensures { λ r. ⌜ set-stepped r (now (self .exit)) ≡ ends-in-image (now (self .entry)) at ⌝ }
+    {
+        if at.reel >= self.reels {
+            return Err(SetFault::Finish);
+        }
+        self.expect = Expect::End(Onward::Image);
+        Ok(())
+    }
+
+    // A second mark behind a trailer file: the reel is over, and on the last reel the set.
+    fn end_behind_trailer(&mut self, at: Place) -> Result<(), SetFault>
+        ensures { λ r. ⌜ set-stepped r (now (self .exit)) ≡ ends-behind-trailer (now (self .entry)) at ⌝ }
+    {
+        self.expect = match self.layout.form {
+            _ if at.reel >= self.reels && self.reels == 1 => Expect::End(Onward::Nothing),
+            _ if at.reel >= self.reels => Expect::LastMark,
+            Form::Interleaved => return Err(SetFault::Finish),
+            Form::Sequential => Expect::End(Onward::Header),
+            Form::Vidicon => return Err(SetFault::Finish),
+        };
+        Ok(())
+    }
+
+    // The group that is read joins those that have been read. Bands rise, so there are no more than five.
+    fn close_group(&mut self)
+        ensures { λ _. ⌜ now (self .exit) ≡ expecting (closed (now (self .entry))) Expect.BehindTrailer ⌝ }
+    {
+        if self.groups < 5 {
+            self.table[self.groups] = self.group;
+            self.groups += 1;
+        }
+        self.expect = Expect::BehindTrailer;
+    }
+}
+
+// A block that the deck should not show there.
+fn deck_layer(seen: Seen) -> Result<(), DeckFault>
+    ensures { λ r. ⌜ decked r ≡ deck-says (block-of (seen .entry)) ⌝ }
+{
+    match seen {
+        Seen::Absent => Err(DeckFault::Absent),
+        Seen::Bad => Err(DeckFault::Bad),
+        Seen::Mark => Ok(()),
+        Seen::Record(_) => Ok(()),
+    }
+}
+
+// A mark for a record, or a record for a mark.
+fn record_layer(seen: Seen) -> Result<(), RecordFault>
+    ensures { λ r. ⌜ recorded r ≡ record-says (block-of (seen .entry)) ⌝ }
+{
+    match seen {
+        Seen::Record(_) => Err(RecordFault::RecordForMark),
+        Seen::Mark => Err(RecordFault::MarkForRecord),
+        Seen::Bad => Ok(()),
+        Seen::Absent => Ok(()),
     }
 }
