@@ -82,6 +82,16 @@ record-says (Some bad) = None
 record-says (Some mark) = Some 21
 record-says (Some (written xs)) = Some 22
 
+abbrev pub refusal : Result (Unit {0}) Cause → Option ℕ
+refusal (Ok u) = None
+refusal (Err c) = Some (number c)
+
+abbrev pub unexpected : Option Block → Option ℕ
+unexpected None = Some 11
+unexpected (Some bad) = Some 12
+unexpected (Some mark) = Some 21
+unexpected (Some (written xs)) = Some 22
+
 -- Go on where a record has passed its checks.
 abbrev pub passed : Option ℕ → Result Machine ℕ → Result Machine ℕ
 passed None r = r

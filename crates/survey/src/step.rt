@@ -4,7 +4,8 @@ ghost use Prim.Native.Nat.{_≤_};
 ghost use lib.ListN.{length};
 ghost use Rattle.survey.specs.Directories.{first-directory};
 ghost use Rattle.survey.specs.Records.{recorded};
-ghost use Rattle.survey.specs.Machines.{stepped, set-stepped, block-of, decked, deck-says, record-says, first, later, on-directory, on-header, on-attribute, next-group, ends-in-image, ends-behind-trailer, expecting, closed, step};
+ghost use Rattle.std.specs.declared.result.Result.the-variants.{Ok};
+ghost use Rattle.survey.specs.Machines.{stepped, set-stepped, block-of, decked, deck-says, record-says, refusal, unexpected, first, later, on-directory, on-header, on-attribute, next-group, ends-in-image, ends-behind-trailer, expecting, closed, step};
 use super::directory::DIRECTORY_LENGTH;
 use super::directory::digit;
 use super::directory::first_directory;
@@ -137,25 +138,82 @@ impl Machine {
     fn end_behind_trailer(&mut self, at: Place) -> Result<(), SetFault>
         ensures { λ r. ⌜ set-stepped r (now (self .exit)) ≡ ends-behind-trailer (now (self .entry)) at ⌝ }
     {
-        self.expect = match self.layout.form {
-            _ if at.reel >= self.reels && self.reels == 1 => Expect::End(Onward::Nothing),
-            _ if at.reel >= self.reels => Expect::LastMark,
-            Form::Interleaved => return Err(SetFault::Finish),
-            Form::Sequential => Expect::End(Onward::Header),
-            Form::Vidicon => return Err(SetFault::Finish),
+        self.expect = if at.reel < self.reels {
+            match self.layout.form {
+                Form::Interleaved => return Err(SetFault::Finish),
+                Form::Sequential => Expect::End(Onward::Header),
+                Form::Vidicon => return Err(SetFault::Finish),
+            }
+        } else if self.reels == 1 {
+            Expect::End(Onward::Nothing)
+        } else {
+            Expect::LastMark
         };
         Ok(())
     }
 
     // The group that is read joins those that have been read. Bands rise, so there are no more than five.
-    fn close_group(&mut self)
-        ensures { λ _. ⌜ now (self .exit) ≡ expecting (closed (now (self .entry))) Expect.BehindTrailer ⌝ }
+    fn close_group(&mut self) -> Result<(), Cause>
+        ensures { λ r. ⌜ stepped r (now (self .exit)) ≡ Ok (expecting (closed (now (self .entry))) Expect.BehindTrailer) ⌝ }
     {
         if self.groups < 5 {
             self.table[self.groups] = self.group;
             self.groups += 1;
         }
-        self.expect = Expect::BehindTrailer;
+        self.turn(Expect::BehindTrailer)
+    }
+
+    // Takes the block that came by what was expected, and expects the next.
+    pub(crate) fn step(&mut self, at: Place, seen: Seen) -> Result<(), Cause>
+        requires kept { ⌜ length (now self .directory) ≡ 360 ⌝ }
+        requires few { ⌜ now self .reels ≤ 9 ⌝ ∗ ⌜ now self .group .blocks ≤ 40960 ⌝ }
+        requires on_reel { ⌜ 1 ≤ at .reel ⌝ ∗ ⌜ at .reel ≤ 9 ⌝ }
+        ensures { λ r. ⌜ stepped r (now (self .exit)) ≡ step (now (self .entry)) at (block-of (seen .entry)) ⌝ }
+    {
+        match (self.expect, seen) {
+            (Expect::Directory(onward), Seen::Record(bytes)) => self.directory(at, bytes, onward),
+            (Expect::Directory(_), other) => unexpected(other),
+            (Expect::DirectoryMark(Onward::Image), Seen::Mark) => self.turn(Expect::Resumed),
+            (Expect::DirectoryMark(_), Seen::Mark) => self.turn(Expect::Header),
+            (Expect::DirectoryMark(_), other) => unexpected(other),
+            (Expect::Header, Seen::Record(bytes)) => self.header(at, bytes),
+            (Expect::Header, other) => unexpected(other),
+            (Expect::Attribute(number), Seen::Record(bytes)) => self.attribute(number, bytes),
+            (Expect::Attribute(_), other) => unexpected(other),
+            (Expect::AttributeMark, Seen::Mark) => self.turn(Expect::FirstImage),
+            (Expect::AttributeMark, other) => unexpected(other),
+            (Expect::FirstImage, Seen::Record(bytes)) => self.image(at, bytes),
+            (Expect::FirstImage, Seen::Bad) => self.bad_line(at),
+            (Expect::FirstImage, other) => unexpected(other),
+            (Expect::Image, Seen::Record(bytes)) => self.image(at, bytes),
+            (Expect::Image, Seen::Bad) => self.bad_line(at),
+            (Expect::Image, Seen::Mark) => self.turn(Expect::BehindImage),
+            (Expect::Image, other) => unexpected(other),
+            (Expect::BehindImage, Seen::Record(bytes)) => self.first_trailer(at, bytes),
+            (Expect::BehindImage, Seen::Mark) => Ok(self.end_in_image(at)?),
+            (Expect::BehindImage, other) => unexpected(other),
+            (Expect::Resumed, Seen::Record(bytes)) => self.resumed(at, bytes),
+            (Expect::Resumed, Seen::Bad) => self.bad_line(at),
+            (Expect::Resumed, other) => unexpected(other),
+            (Expect::Trailer(number), Seen::Record(bytes)) => self.trailer(number, bytes),
+            (Expect::Trailer(_), other) => unexpected(other),
+            (Expect::TrailerMark, Seen::Mark) => self.close_group(),
+            (Expect::TrailerMark, other) => unexpected(other),
+            (Expect::BehindTrailer, Seen::Record(bytes)) => self.next_group(at, bytes),
+            (Expect::BehindTrailer, Seen::Mark) => Ok(self.end_behind_trailer(at)?),
+            (Expect::BehindTrailer, other) => unexpected(other),
+            (Expect::LastMark, Seen::Mark) => self.turn(Expect::End(Onward::Nothing)),
+            (Expect::LastMark, other) => unexpected(other),
+            (Expect::End(onward), Seen::Absent) => self.turn(Expect::Directory(onward)),
+            (Expect::End(_), _) => Err(Cause::Set(SetFault::BehindEnd)),
+        }
+    }
+
+    fn turn(&mut self, expect: Expect) -> Result<(), Cause>
+        ensures { λ r. ⌜ stepped r (now (self .exit)) ≡ Ok (expecting (now (self .entry)) expect) ⌝ }
+    {
+        self.expect = expect;
+        Ok(())
     }
 }
 
@@ -181,4 +239,13 @@ fn record_layer(seen: Seen) -> Result<(), RecordFault>
         Seen::Bad => Ok(()),
         Seen::Absent => Ok(()),
     }
+}
+
+// A block that is not expected, by the layer that it is a fault of.
+fn unexpected(seen: Seen) -> Result<(), Cause>
+    ensures { λ r. ⌜ refusal r ≡ unexpected (block-of (seen .entry)) ⌝ }
+{
+    deck_layer(seen)?;
+    record_layer(seen)?;
+    Ok(())
 }
