@@ -1,4 +1,5 @@
 -- The survey's machine, as a decision table: what it expects and what comes give the machine afterwards, or the number of a fault.
+use mathlib.Core.Path.{_≡_}
 use mathlib.Core.Bool.{Bool, true, false, cond, _&&_, _||_, not}
 use mathlib.Core.List.{List, [], _∷_}
 use Prim.Native.Nat.{ℕ, _+_, _-_, _*_, _/_, _%_, _≤_}
@@ -49,6 +50,11 @@ closed m =
     cond (ltb (m .groups) 5)
       record { reels = m .reels; expect = m .expect; directory = m .directory; layout = m .layout; group = m .group; groups = m .groups + 1; table = set (m .table) (m .groups) (m .group) }
       m
+
+-- What holds of a machine throughout: its directory is whole, the deck has at most nine reels, and an image file has at most 8,192 lines
+-- of five bands.
+abbrev pub Steady : Machine → Type 0
+Steady m = (length (m .directory) ≡ 360) × ((m .reels ≤ 9) × (m .group .blocks ≤ 40960))
 
 -- What a step says: the machine afterwards, or the fault's number.
 abbrev pub stepped : Result (Unit {0}) Cause → Machine → Result Machine ℕ

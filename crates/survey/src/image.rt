@@ -3,7 +3,8 @@ ghost use mathlib.Core.Path.{_≡_};
 ghost use Prim.Native.Nat.{_≤_};
 ghost use lib.ListN.{length, drop, getD};
 ghost use Rattle.survey.specs.Layouts.{stride};
-ghost use Rattle.survey.specs.Machines.{stepped, set-stepped, all-zero, most-blocks, weight, present, missing, line, on-image, on-bad-line, no-group, lines-agree, behind-trailer, on-first-trailer, on-trailer, on-resumed};
+ghost use Rattle.std.specs.Vec.{made};
+ghost use Rattle.survey.specs.Machines.{Steady, stepped, set-stepped, all-zero, most-blocks, weight, present, missing, line, on-image, on-bad-line, no-group, lines-agree, behind-trailer, on-first-trailer, on-trailer, on-resumed};
 use super::fault::Cause;
 use super::fault::CauseFromRecord;
 use super::fault::CauseFromSet;
@@ -83,8 +84,10 @@ impl Machine {
 
     // One line more, whose body is zero or not.
     fn line(&mut self, at: Place, zero: bool) -> Result<(), SetFault>
-        requires { ⌜ 1 ≤ at .reel ⌝ ∗ ⌜ at .reel ≤ 9 ⌝ }
-        ensures { λ r. ⌜ set-stepped r (now (self .exit)) ≡ line (now (self .entry)) at zero ⌝ }
+        requires steady { ⌜ Steady (now self) ⌝ }
+        requires on_reel { ⌜ 1 ≤ at .reel ⌝ ∗ ⌜ at .reel ≤ 9 ⌝ }
+        ensures says { λ r. ⌜ set-stepped r (now (self .exit)) ≡ line (now (self .entry)) at zero ⌝ }
+        ensures stays_steady { λ r. ⌜ made r (λ _. Steady (now (self .exit))) ⌝ }
     {
         if self.group.blocks >= self.most_blocks() {
             return Err(SetFault::Lines);
@@ -101,9 +104,10 @@ impl Machine {
 
     // An image record.
     pub(crate) fn image(&mut self, at: Place, bytes: &[u8]) -> Result<(), Cause>
+        requires steady { ⌜ Steady (now self) ⌝ }
         requires on_reel { ⌜ 1 ≤ at .reel ⌝ ∗ ⌜ at .reel ≤ 9 ⌝ }
-        requires few { ⌜ now self .group .blocks ≤ 40960 ⌝ }
-        ensures { λ r. ⌜ stepped r (now (self .exit)) ≡ on-image (now (self .entry)) at (now (bytes .entry)) ⌝ }
+        ensures says { λ r. ⌜ stepped r (now (self .exit)) ≡ on-image (now (self .entry)) at (now (bytes .entry)) ⌝ }
+        ensures stays_steady { λ r. ⌜ made r (λ _. Steady (now (self .exit))) ⌝ }
     {
         check(bytes, self.layout.form.record_length(), IMAGE, self.group.blocks + 1)?;
         self.line(at, zero_body(bytes))?;
@@ -112,8 +116,10 @@ impl Machine {
 
     // A bad block in an image file.
     pub(crate) fn bad_line(&mut self, at: Place) -> Result<(), Cause>
+        requires steady { ⌜ Steady (now self) ⌝ }
         requires on_reel { ⌜ 1 ≤ at .reel ⌝ ∗ ⌜ at .reel ≤ 9 ⌝ }
-        ensures { λ r. ⌜ stepped r (now (self .exit)) ≡ on-bad-line (now (self .entry)) at ⌝ }
+        ensures says { λ r. ⌜ stepped r (now (self .exit)) ≡ on-bad-line (now (self .entry)) at ⌝ }
+        ensures stays_steady { λ r. ⌜ made r (λ _. Steady (now (self .exit))) ⌝ }
     {
         self.line(at, false)?;
         Ok(())
@@ -142,7 +148,9 @@ impl Machine {
 
     // The first trailer, which closes the count of lines.
     pub(crate) fn first_trailer(&mut self, at: Place, bytes: &[u8]) -> Result<(), Cause>
-        ensures { λ r. ⌜ stepped r (now (self .exit)) ≡ on-first-trailer (now (self .entry)) at (now (bytes .entry)) ⌝ }
+        requires steady { ⌜ Steady (now self) ⌝ }
+        ensures says { λ r. ⌜ stepped r (now (self .exit)) ≡ on-first-trailer (now (self .entry)) at (now (bytes .entry)) ⌝ }
+        ensures stays_steady { λ r. ⌜ made r (λ _. Steady (now (self .exit))) ⌝ }
     {
         check(bytes, self.layout.form.record_length(), TRAILER, 1)?;
         if !self.lines_agree() {
@@ -154,7 +162,9 @@ impl Machine {
     }
 
     pub(crate) fn trailer(&mut self, number: u32, bytes: &[u8]) -> Result<(), Cause>
-        ensures { λ r. ⌜ stepped r (now (self .exit)) ≡ on-trailer (now (self .entry)) number (now (bytes .entry)) ⌝ }
+        requires steady { ⌜ Steady (now self) ⌝ }
+        ensures says { λ r. ⌜ stepped r (now (self .exit)) ≡ on-trailer (now (self .entry)) number (now (bytes .entry)) ⌝ }
+        ensures stays_steady { λ r. ⌜ made r (λ _. Steady (now (self .exit))) ⌝ }
     {
         check(bytes, self.layout.form.record_length(), TRAILER, number)?;
         self.expect = self.behind_trailer(number);
@@ -163,9 +173,10 @@ impl Machine {
 
     // The first record of a reel that goes on behind an image block: its type tells whether the image file does.
     pub(crate) fn resumed(&mut self, at: Place, bytes: &[u8]) -> Result<(), Cause>
+        requires steady { ⌜ Steady (now self) ⌝ }
         requires on_reel { ⌜ 1 ≤ at .reel ⌝ ∗ ⌜ at .reel ≤ 9 ⌝ }
-        requires few { ⌜ now self .group .blocks ≤ 40960 ⌝ }
-        ensures { λ r. ⌜ stepped r (now (self .exit)) ≡ on-resumed (now (self .entry)) at (now (bytes .entry)) ⌝ }
+        ensures says { λ r. ⌜ stepped r (now (self .exit)) ≡ on-resumed (now (self .entry)) at (now (bytes .entry)) ⌝ }
+        ensures stays_steady { λ r. ⌜ made r (λ _. Steady (now (self .exit))) ⌝ }
     {
         match bytes.get(5) {
             Some(kind) if *kind == TRAILER => self.first_trailer(at, bytes),

@@ -5,7 +5,8 @@ ghost use lib.ListN.{length};
 ghost use Rattle.survey.specs.Directories.{first-directory};
 ghost use Rattle.survey.specs.Records.{recorded};
 ghost use Rattle.std.specs.declared.result.Result.the-variants.{Ok};
-ghost use Rattle.survey.specs.Machines.{stepped, set-stepped, block-of, decked, deck-says, record-says, refusal, unexpected, first, later, on-directory, on-header, on-attribute, next-group, ends-in-image, ends-behind-trailer, expecting, closed, step};
+ghost use Rattle.std.specs.Vec.{made};
+ghost use Rattle.survey.specs.Machines.{Steady, stepped, set-stepped, block-of, decked, deck-says, record-says, refusal, unexpected, first, later, on-directory, on-header, on-attribute, next-group, ends-in-image, ends-behind-trailer, expecting, closed, step};
 use super::directory::DIRECTORY_LENGTH;
 use super::directory::digit;
 use super::directory::first_directory;
@@ -34,9 +35,10 @@ use super::record::check;
 
 impl Machine {
     fn first(&mut self, bytes: &[u8], onward: Onward) -> Result<(), SetFault>
+        requires steady { ⌜ Steady (now self) ⌝ }
         requires long { ⌜ length (now bytes) ≡ 360 ⌝ }
-        requires few { ⌜ now self .reels ≤ 9 ⌝ }
-        ensures { λ r. ⌜ set-stepped r (now (self .exit)) ≡ first (now (self .entry)) onward (now (bytes .entry)) (first-directory (now (bytes .entry)) (now (self .entry) .reels)) ⌝ }
+        ensures says { λ r. ⌜ set-stepped r (now (self .exit)) ≡ first (now (self .entry)) onward (now (bytes .entry)) (first-directory (now (bytes .entry)) (now (self .entry) .reels)) ⌝ }
+        ensures stays_steady { λ r. ⌜ made r (λ _. Steady (now (self .exit))) ⌝ }
     {
         let Some(layout) = first_directory(bytes, self.reels) else {
             return Err(SetFault::Directory);
@@ -48,10 +50,11 @@ impl Machine {
     }
 
     fn later(&mut self, at: Place, bytes: &[u8], onward: Onward) -> Result<(), SetFault>
+        requires steady { ⌜ Steady (now self) ⌝ }
         requires long { ⌜ length (now bytes) ≡ 360 ⌝ }
-        requires kept { ⌜ length (now self .directory) ≡ 360 ⌝ }
         requires few { ⌜ at .reel ≤ 9 ⌝ }
-        ensures { λ r. ⌜ set-stepped r (now (self .exit)) ≡ later (now (self .entry)) at onward (now (bytes .entry)) ⌝ }
+        ensures says { λ r. ⌜ set-stepped r (now (self .exit)) ≡ later (now (self .entry)) at onward (now (bytes .entry)) ⌝ }
+        ensures stays_steady { λ r. ⌜ made r (λ _. Steady (now (self .exit))) ⌝ }
     {
         if !same_directory(&self.directory, bytes) {
             return Err(SetFault::OtherDirectory);
@@ -64,9 +67,10 @@ impl Machine {
     }
 
     fn directory(&mut self, at: Place, bytes: &[u8], onward: Onward) -> Result<(), Cause>
-        requires kept { ⌜ length (now self .directory) ≡ 360 ⌝ }
-        requires few { ⌜ now self .reels ≤ 9 ⌝ ∗ ⌜ at .reel ≤ 9 ⌝ }
-        ensures { λ r. ⌜ stepped r (now (self .exit)) ≡ on-directory (now (self .entry)) at onward (now (bytes .entry)) ⌝ }
+        requires steady { ⌜ Steady (now self) ⌝ }
+        requires few { ⌜ at .reel ≤ 9 ⌝ }
+        ensures says { λ r. ⌜ stepped r (now (self .exit)) ≡ on-directory (now (self .entry)) at onward (now (bytes .entry)) ⌝ }
+        ensures stays_steady { λ r. ⌜ made r (λ _. Steady (now (self .exit))) ⌝ }
     {
         check(bytes, DIRECTORY_LENGTH, DIRECTORY, 1)?;
         if at.reel == 1 {
@@ -78,7 +82,9 @@ impl Machine {
     }
 
     fn header(&mut self, at: Place, bytes: &[u8]) -> Result<(), Cause>
-        ensures { λ r. ⌜ stepped r (now (self .exit)) ≡ on-header (now (self .entry)) at (now (bytes .entry)) ⌝ }
+        requires steady { ⌜ Steady (now self) ⌝ }
+        ensures says { λ r. ⌜ stepped r (now (self .exit)) ≡ on-header (now (self .entry)) at (now (bytes .entry)) ⌝ }
+        ensures stays_steady { λ r. ⌜ made r (λ _. Steady (now (self .exit))) ⌝ }
     {
         check(bytes, self.layout.form.record_length(), HEADER, 1)?;
         let last = match self.group.content {
@@ -99,7 +105,9 @@ impl Machine {
     }
 
     fn attribute(&mut self, number: u32, bytes: &[u8]) -> Result<(), Cause>
-        ensures { λ r. ⌜ stepped r (now (self .exit)) ≡ on-attribute (now (self .entry)) number (now (bytes .entry)) ⌝ }
+        requires steady { ⌜ Steady (now self) ⌝ }
+        ensures says { λ r. ⌜ stepped r (now (self .exit)) ≡ on-attribute (now (self .entry)) number (now (bytes .entry)) ⌝ }
+        ensures stays_steady { λ r. ⌜ made r (λ _. Steady (now (self .exit))) ⌝ }
     {
         let ancillaries = self.layout.ancillaries();
         let kind = if number <= 1 + ancillaries { ANCILLARY } else { ANNOTATION };
@@ -114,7 +122,9 @@ impl Machine {
 
     // Behind the mark of a trailer file a record is the next header, where bands follow each other.
     fn next_group(&mut self, at: Place, bytes: &[u8]) -> Result<(), Cause>
-        ensures { λ r. ⌜ stepped r (now (self .exit)) ≡ next-group (now (self .entry) .layout .form) (now (self .entry)) at (now (bytes .entry)) ⌝ }
+        requires steady { ⌜ Steady (now self) ⌝ }
+        ensures says { λ r. ⌜ stepped r (now (self .exit)) ≡ next-group (now (self .entry) .layout .form) (now (self .entry)) at (now (bytes .entry)) ⌝ }
+        ensures stays_steady { λ r. ⌜ made r (λ _. Steady (now (self .exit))) ⌝ }
     {
         match self.layout.form {
             Form::Interleaved => Err(Cause::Record(RecordFault::RecordForMark)),
@@ -125,7 +135,9 @@ impl Machine {
 
     // A second mark behind an image file: the reel is over, and another goes on.
     fn end_in_image(&mut self, at: Place) -> Result<(), SetFault>
-        ensures { λ r. ⌜ set-stepped r (now (self .exit)) ≡ ends-in-image (now (self .entry)) at ⌝ }
+        requires steady { ⌜ Steady (now self) ⌝ }
+        ensures says { λ r. ⌜ set-stepped r (now (self .exit)) ≡ ends-in-image (now (self .entry)) at ⌝ }
+        ensures stays_steady { λ r. ⌜ made r (λ _. Steady (now (self .exit))) ⌝ }
     {
         if at.reel >= self.reels {
             return Err(SetFault::Finish);
@@ -136,7 +148,9 @@ impl Machine {
 
     // A second mark behind a trailer file: the reel is over, and on the last reel the set.
     fn end_behind_trailer(&mut self, at: Place) -> Result<(), SetFault>
-        ensures { λ r. ⌜ set-stepped r (now (self .exit)) ≡ ends-behind-trailer (now (self .entry)) at ⌝ }
+        requires steady { ⌜ Steady (now self) ⌝ }
+        ensures says { λ r. ⌜ set-stepped r (now (self .exit)) ≡ ends-behind-trailer (now (self .entry)) at ⌝ }
+        ensures stays_steady { λ r. ⌜ made r (λ _. Steady (now (self .exit))) ⌝ }
     {
         self.expect = if at.reel < self.reels {
             match self.layout.form {
@@ -154,7 +168,9 @@ impl Machine {
 
     // The group that is read joins those that have been read. Bands rise, so there are no more than five.
     fn close_group(&mut self) -> Result<(), Cause>
-        ensures { λ r. ⌜ stepped r (now (self .exit)) ≡ Ok (expecting (closed (now (self .entry))) Expect.BehindTrailer) ⌝ }
+        requires steady { ⌜ Steady (now self) ⌝ }
+        ensures says { λ r. ⌜ stepped r (now (self .exit)) ≡ Ok (expecting (closed (now (self .entry))) Expect.BehindTrailer) ⌝ }
+        ensures stays_steady { λ r. ⌜ made r (λ _. Steady (now (self .exit))) ⌝ }
     {
         if self.groups < 5 {
             self.table[self.groups] = self.group;
@@ -165,10 +181,10 @@ impl Machine {
 
     // Takes the block that came by what was expected, and expects the next.
     pub(crate) fn step(&mut self, at: Place, seen: Seen) -> Result<(), Cause>
-        requires kept { ⌜ length (now self .directory) ≡ 360 ⌝ }
-        requires few { ⌜ now self .reels ≤ 9 ⌝ ∗ ⌜ now self .group .blocks ≤ 40960 ⌝ }
+        requires steady { ⌜ Steady (now self) ⌝ }
         requires on_reel { ⌜ 1 ≤ at .reel ⌝ ∗ ⌜ at .reel ≤ 9 ⌝ }
-        ensures { λ r. ⌜ stepped r (now (self .exit)) ≡ step (now (self .entry)) at (block-of (seen .entry)) ⌝ }
+        ensures says { λ r. ⌜ stepped r (now (self .exit)) ≡ step (now (self .entry)) at (block-of (seen .entry)) ⌝ }
+        ensures stays_steady { λ r. ⌜ made r (λ _. Steady (now (self .exit))) ⌝ }
     {
         match (self.expect, seen) {
             (Expect::Directory(onward), Seen::Record(bytes)) => self.directory(at, bytes, onward),
@@ -210,7 +226,9 @@ impl Machine {
     }
 
     fn turn(&mut self, expect: Expect) -> Result<(), Cause>
-        ensures { λ r. ⌜ stepped r (now (self .exit)) ≡ Ok (expecting (now (self .entry)) expect) ⌝ }
+        requires steady { ⌜ Steady (now self) ⌝ }
+        ensures says { λ r. ⌜ stepped r (now (self .exit)) ≡ Ok (expecting (now (self .entry)) expect) ⌝ }
+        ensures stays_steady { λ r. ⌜ made r (λ _. Steady (now (self .exit))) ⌝ }
     {
         self.expect = expect;
         Ok(())
