@@ -25,6 +25,7 @@ use Rattle.survey.specs.declared.header.Header.{Header}
 use Rattle.survey.specs.declared.layout.Form.{Form}
 use Rattle.survey.specs.declared.layout.Form.the-variants.{Interleaved, Sequential, Vidicon}
 use Rattle.survey.specs.declared.layout.Layout.{Layout}
+use Rattle.survey.specs.declared.bands.Bands.{Bands}
 use Rattle.survey.specs.declared.machine.Expect.{Expect}
 use Rattle.survey.specs.declared.machine.Expect.the-variants as expects
 use Rattle.survey.specs.declared.machine.Group.{Group}
@@ -37,19 +38,22 @@ use Rattle.survey.specs.declared.machine.Seen.the-variants as seens
 
 -- The machine with another expectation, with a first directory, with another group, and with its group among those that have been read.
 abbrev pub expecting : Machine → Expect → Machine
-expecting m e = record { reels = m .reels; expect = e; directory = m .directory; layout = m .layout; group = m .group; groups = m .groups; table = m .table }
+expecting m e = record { reels = m .reels; expect = e; directory = m .directory; layout = m .layout; group = m .group; groups = m .groups; table = m .table; bands = m .bands }
 
 abbrev pub headed-by : Machine → List ℕ → Layout → Machine
-headed-by m xs l = record { reels = m .reels; expect = m .expect; directory = xs; layout = l; group = m .group; groups = m .groups; table = m .table }
+headed-by m xs l = record { reels = m .reels; expect = m .expect; directory = xs; layout = l; group = m .group; groups = m .groups; table = m .table; bands = m .bands }
 
 abbrev pub grouped : Machine → Group → Machine
-grouped m g = record { reels = m .reels; expect = m .expect; directory = m .directory; layout = m .layout; group = g; groups = m .groups; table = m .table }
+grouped m g = record { reels = m .reels; expect = m .expect; directory = m .directory; layout = m .layout; group = g; groups = m .groups; table = m .table; bands = m .bands }
 
 abbrev pub closed : Machine → Machine
 closed m =
     cond (ltb (m .groups) 5)
-      record { reels = m .reels; expect = m .expect; directory = m .directory; layout = m .layout; group = m .group; groups = m .groups + 1; table = set (m .table) (m .groups) (m .group) }
+      record { reels = m .reels; expect = m .expect; directory = m .directory; layout = m .layout; group = m .group; groups = m .groups + 1; table = set (m .table) (m .groups) (m .group); bands = m .bands }
       m
+
+abbrev pub banded : Machine → Bands → Machine
+banded m b = record { reels = m .reels; expect = m .expect; directory = m .directory; layout = m .layout; group = m .group; groups = m .groups; table = m .table; bands = b }
 
 -- What holds of a machine throughout: its directory is whole, the deck has at most nine reels, and an image file has at most 8,192 lines
 -- of five bands.
@@ -126,12 +130,36 @@ abbrev pub band-of : Content → ℕ
 band-of (One c) = c
 band-of (Mixed mask) = 0
 
+-- The bit of the band at a place, counted from 0, among 4 to 8.
+abbrev pub weight : ℕ → ℕ
+weight place = cond (eqb place 0) 16 (cond (eqb place 1) 8 (cond (eqb place 2) 4 (cond (eqb place 3) 2 1)))
+
+abbrev pub present : ℕ → ℕ → Bool
+present mask place = eqb (mask / weight place % 2) 1
+
+abbrev pub no-bands : Bands
+no-bands = record { count = 0; codes = replicate 5 0 }
+
+-- One band more. There are never more than five.
+abbrev pub one-band : ℕ → Bands → Bands
+one-band code b = cond (ltb (b .count) 5) record { count = b .count + 1; codes = set (b .codes) (b .count) code } b
+
+abbrev pub if-present : Bool → ℕ → Bands → Bands
+if-present true code b = one-band code b
+if-present false code b = b
+
+-- The bands of an image file, after those of the files before.
+abbrev pub more-bands : Content → Bands → Bands
+more-bands (One code) b = one-band code b
+more-bands (Mixed mask) b =
+    if-present (present mask 4) 8 (if-present (present mask 3) 7 (if-present (present mask 2) 6 (if-present (present mask 1) 5 (if-present (present mask 0) 4 b))))
+
 -- A header begins a group.
 abbrev pub fresh : Header → Place → Group
 fresh h at = record { content = h .content; trailers = h .trailers; header = at; trailer = at; blocks = 0; through = replicate 9 0 }
 
 abbrev pub begun : Machine → Place → Result Header ℕ → Result Machine ℕ
-begun m at (Ok h) = Ok (expecting (grouped m (fresh h at)) (expects.Attribute 2))
+begun m at (Ok h) = Ok (expecting (banded (grouped m (fresh h at)) (more-bands (h .content) (m .bands))) (expects.Attribute 2))
 begun m at (Err n) = Err n
 
 abbrev pub on-header : Machine → Place → List ℕ → Result Machine ℕ
@@ -156,13 +184,6 @@ abbrev pub most-blocks : Form → ℕ → ℕ
 most-blocks Interleaved bands = 8192 * bands
 most-blocks Sequential bands = 8192
 most-blocks Vidicon bands = 8192
-
--- The bit of the band at a place, counted from 0, among 4 to 8.
-abbrev pub weight : ℕ → ℕ
-weight place = cond (eqb place 0) 16 (cond (eqb place 1) 8 (cond (eqb place 2) 4 (cond (eqb place 3) 2 1)))
-
-abbrev pub present : ℕ → ℕ → Bool
-present mask place = eqb (mask / weight place % 2) 1
 
 -- The next image block is of a band that is not present.
 abbrev pub missing : Content → ℕ → ℕ → Bool

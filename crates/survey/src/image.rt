@@ -4,7 +4,8 @@ ghost use Prim.Native.Nat.{_≤_};
 ghost use lib.ListN.{length, drop, getD};
 ghost use Rattle.survey.specs.Layouts.{stride};
 ghost use Rattle.std.specs.Vec.{made};
-ghost use Rattle.survey.specs.Machines.{Steady, stepped, set-stepped, all-zero, most-blocks, weight, present, missing, line, on-image, on-bad-line, no-group, lines-agree, behind-trailer, on-first-trailer, on-trailer, on-resumed};
+ghost use Rattle.survey.specs.Machines.{Steady, stepped, set-stepped, all-zero, most-blocks, missing, line, on-image, on-bad-line, no-group, lines-agree, behind-trailer, on-first-trailer, on-trailer, on-resumed};
+use super::bands::present;
 use super::fault::Cause;
 use super::fault::CauseFromRecord;
 use super::fault::CauseFromSet;
@@ -39,26 +40,6 @@ fn zero_body(bytes: &[u8]) -> bool
     ensures { λ r. ⌜ r ≡ all-zero (drop 6 (now (bytes .entry))) ⌝ }
 {
     all_zero(&bytes[6..])
-}
-
-// The bit of the band at a place among 4 to 8, in the byte of bands present.
-pub fn weight(place: u32) -> u8
-    ensures { λ r. ⌜ r ≡ weight place ⌝ }
-{
-    match place {
-        0 => 16,
-        1 => 8,
-        2 => 4,
-        3 => 2,
-        _ => 1,
-    }
-}
-
-// Whether the band at a place is present.
-pub fn present(mask: u8, place: u32) -> bool
-    ensures { λ r. ⌜ r ≡ present mask place ⌝ }
-{
-    mask / weight(place) % 2 == 1
 }
 
 impl Machine {

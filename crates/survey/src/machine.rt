@@ -1,4 +1,5 @@
 // The survey's machine: what it has read, and what it expects.
+use super::bands::Bands;
 use super::header::Content;
 use super::layout::Layout;
 
@@ -70,6 +71,8 @@ pub struct Machine {
     pub group: Group,
     pub groups: usize,
     pub table: [Group; 5],
+    // the bands that their headers name
+    pub bands: Bands,
 }
 
 // What came: a record, a mark, a bad block, or none.

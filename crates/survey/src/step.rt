@@ -100,6 +100,7 @@ impl Machine {
             blocks: 0,
             through: [0; 9],
         };
+        self.bands.add_all(header.content);
         self.expect = Expect::Attribute(2);
         Ok(())
     }
