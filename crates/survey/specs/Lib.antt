@@ -4,3 +4,4 @@ pub mod Records
 pub mod Directories
 pub mod Headers
 pub mod Machines
+pub mod Surveys

@@ -4,7 +4,7 @@ ghost use Rattle.survey.specs.Machines.{weight, present, one-band, if-present,
 use super::header::Content;
 
 // The codes of the bands present, in rising order: 4 to 8, or a vidicon's letter.
-#[derive(Clone, Copy, PartialEq, Eq, Debug)]
+#[derive(Clone, Copy)]
 pub struct Bands {
     pub count: usize,
     pub codes: [u8; 5],

@@ -1,4 +1,5 @@
 // The survey of a tape set: whether it obeys the layout of EDIPS scene tapes, and where its records lie.
+mod accepted;
 mod bands;
 mod directory;
 mod fault;
