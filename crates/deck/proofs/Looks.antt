@@ -1,12 +1,21 @@
 -- The block at a place of a set, by its place counted from 0.
-use mathlib.Core.Path.{_≡_, refl, sym, ap, _∙_}
+use mathlib.Core.Path.{_≡_, refl, sym, ap, subst, _∙_}
+use mathlib.Core.Bool.{false, cond}
 use mathlib.Core.List.{List, [], _∷_}
 use Prim.Native.Nat.{ℕ, zero, suc, _-_, _≤_, _<_}
 use native.Mathlib.Omega.{arith}
+use lib.Dec.{ltb}
 use lib.ListN.{length, getD}
 use Rattle.std.specs.declared.option.Option.{Option}
 use Rattle.std.specs.declared.option.Option.the-variants.{Some, None}
-use Rattle.deck.specs.Tape.{Block, mark, Reel, TapeSet, nth, from-one, look-on, look}
+use Rattle.std.specs.declared.result.Result.{Result}
+use Rattle.std.specs.declared.result.Result.the-variants.{Ok, Err}
+use Rattle.std.proofs.shelf.Tests.{le-ltb, cond-false}
+use Rattle.deck.specs.Answers.{fetched}
+use Rattle.deck.specs.Tape.{Block, written, mark, bad, Reel, TapeSet, SoundBlock, SoundBlocks, SoundReels, nth, from-one, look-on, look}
+use Rattle.deck.specs.declared.Kind.{Kind}
+use Rattle.deck.specs.declared.Kind.the-variants.{Record}
+use Rattle.deck.specs.declared.Short.{Short}
 
 pub nth-there : {X : Type 0} (xs : List X) (i : ℕ) (d : X) → i < length xs → nth xs i ≡ Some (getD xs i d)
 nth-there [] i d h = absurd (omega arith)
@@ -47,3 +56,32 @@ look-zero-reel set block = refl
 
 pub look-zero-block : (set : TapeSet) (reel : ℕ) → look set reel 0 ≡ None
 look-zero-block set reel = on-zero (from-one set reel)
+
+-- A record of a sound set is not longer than 5,388 bytes.
+nth-sound : (reel : Reel) (i : ℕ) (xs : List ℕ) → SoundBlocks reel → nth reel i ≡ Some (written xs) → SoundBlock (written xs)
+nth-sound [] i xs s e = let z : _≡_ {A = ℕ} 0 1 = cc in absurd (omega arith)
+nth-sound (b ∷ reel) zero xs s e = let is : b ≡ written xs = cc in subst SoundBlock is (s .0)
+nth-sound (b ∷ reel) (suc i) xs s e = nth-sound reel i xs (s .1) e
+
+from-one-sound : (reel : Reel) (n : ℕ) (xs : List ℕ) → SoundBlocks reel → from-one reel n ≡ Some (written xs) → SoundBlock (written xs)
+from-one-sound reel zero xs s e = let z : _≡_ {A = ℕ} 0 1 = cc in absurd (omega arith)
+from-one-sound reel (suc n) xs s e = nth-sound reel n xs s e
+
+reels-sound : (set : TapeSet) (i block : ℕ) (xs : List ℕ) → SoundReels set → look-on (nth set i) block ≡ Some (written xs) → SoundBlock (written xs)
+reels-sound [] i block xs s e = let z : _≡_ {A = ℕ} 0 1 = cc in absurd (omega arith)
+reels-sound (reel ∷ set) zero block xs s e = from-one-sound reel block xs (s .0 .1) e
+reels-sound (reel ∷ set) (suc i) block xs s e = reels-sound set i block xs (s .1) e
+
+pub look-sound : (set : TapeSet) (reel block : ℕ) (xs : List ℕ) → SoundReels set → look set reel block ≡ Some (written xs) → SoundBlock (written xs)
+look-sound set zero block xs s e = let z : _≡_ {A = ℕ} 0 1 = cc in absurd (omega arith)
+look-sound set (suc reel) block xs s e = reels-sound set reel block xs s e
+
+-- A buffer of that length takes every record, and the block is then read off it.
+pub never-short : (o : Option Block) (room : ℕ) (e : Short) → ((xs : List ℕ) → o ≡ Some (written xs) → length xs ≤ room) → fetched o room ≡ Err e → ⊥
+never-short None room e h f = let z : _≡_ {A = ℕ} 0 1 = cc in omega arith
+never-short (Some (written xs)) room e h f =
+    let fits : ltb room (length xs) ≡ false = le-ltb room (length xs) (h xs refl) in
+    let whole : fetched (Some (written xs)) room ≡ Ok (Record (length xs)) = cond-false {A = Result Kind Short} (ltb room (length xs)) (Err record {}) (Ok (Record (length xs))) fits in
+    let z : _≡_ {A = ℕ} 0 1 = cc in omega arith
+never-short (Some mark) room e h f = let z : _≡_ {A = ℕ} 0 1 = cc in omega arith
+never-short (Some bad) room e h f = let z : _≡_ {A = ℕ} 0 1 = cc in omega arith

@@ -1,3 +1,4 @@
 pub mod Directories
 pub mod Headers
 pub mod Zeros
+pub mod Seeing

@@ -1,11 +1,15 @@
 -- The survey of a set: its reels and blocks in order, until the first fault.
+use mathlib.Core.Bool.{Bool, true, false}
 use mathlib.Core.List.{List, [], _∷_}
-use Prim.Native.Nat.{ℕ, _+_, _/_}
+use Prim.Native.Nat.{ℕ, _+_, _/_, _≤_}
 use lib.ListN.{length, take, drop, replicate}
+use Rattle.std.specs.declared.option.Option.{Option}
 use Rattle.std.specs.declared.option.Option.the-variants.{Some, None}
 use Rattle.std.specs.declared.result.Result.{Result}
 use Rattle.std.specs.declared.result.Result.the-variants.{Ok, Err}
-use Rattle.deck.specs.Tape.{Reel, TapeSet}
+use Rattle.deck.specs.Tape.{Block, written, mark, bad, Reel, TapeSet}
+use Rattle.deck.specs.declared.Kind.{Kind}
+use Rattle.deck.specs.declared.Kind.the-variants as kinds
 use Rattle.survey.specs.Faults.{number, layer}
 use Rattle.survey.specs.Layouts.{stride}
 use Rattle.survey.specs.Machines.{step, no-bands}
@@ -92,3 +96,26 @@ told-fault f = (number (f .cause), layer (f .cause), f .reel, f .block)
 abbrev pub told : Result Accepted TapeFault → Result Accepted Fault
 told (Ok a) = Ok a
 told (Err f) = Err (told-fault f)
+
+abbrev pub told-step : {X : Type 0} → Result X TapeFault → Machine → Result Machine Fault
+told-step (Ok x) m = Ok m
+told-step (Err f) m = Err (told-fault f)
+
+-- The block of a kind, where a record stands at the front of a buffer.
+abbrev pub shown-in : Kind → List ℕ → Option Block
+shown-in (kinds.Record n) xs = Some (written (take n xs))
+shown-in kinds.Mark xs = Some mark
+shown-in kinds.Bad xs = Some bad
+shown-in kinds.Absent xs = None
+
+abbrev pub there : Kind → Bool
+there (kinds.Record n) = true
+there kinds.Mark = true
+there kinds.Bad = true
+there kinds.Absent = false
+
+abbrev pub Fits-in : Kind → List ℕ → Type 0
+Fits-in (kinds.Record n) xs = n ≤ length xs
+Fits-in kinds.Mark xs = Unit {0}
+Fits-in kinds.Bad xs = Unit {0}
+Fits-in kinds.Absent xs = Unit {0}

@@ -9,3 +9,4 @@ mod layout;
 mod machine;
 mod record;
 mod step;
+mod survey;
