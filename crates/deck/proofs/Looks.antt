@@ -57,6 +57,17 @@ look-zero-reel set block = refl
 pub look-zero-block : (set : TapeSet) (reel : ℕ) → look set reel 0 ≡ None
 look-zero-block set reel = on-zero (from-one set reel)
 
+-- Every block of a sound set is sound.
+pub block-sound : (reel : Reel) (b : ℕ) → SoundBlocks reel → SoundBlock (getD reel b mark)
+block-sound [] b s = tt
+block-sound (x ∷ reel) zero s = s .0
+block-sound (x ∷ reel) (suc b) s = block-sound reel b (s .1)
+
+pub reel-sound : (set : TapeSet) (r : ℕ) → SoundReels set → (length (getD set r []) ≤ 65535) × SoundBlocks (getD set r [])
+reel-sound [] r s = (omega arith, tt)
+reel-sound (x ∷ set) zero s = s .0
+reel-sound (x ∷ set) (suc r) s = reel-sound set r (s .1)
+
 -- A record of a sound set is not longer than 5,388 bytes.
 nth-sound : (reel : Reel) (i : ℕ) (xs : List ℕ) → SoundBlocks reel → nth reel i ≡ Some (written xs) → SoundBlock (written xs)
 nth-sound [] i xs s e = let z : _≡_ {A = ℕ} 0 1 = cc in absurd (omega arith)

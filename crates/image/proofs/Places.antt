@@ -17,7 +17,7 @@ use Rattle.deck.specs.Tape.{Block, written, mark, bad, Reel, TapeSet, Sound, So
 use Rattle.deck.specs.Answers.{kind-of}
 use Rattle.deck.specs.declared.Kind.the-variants as kinds
 use Rattle.deck.specs.Words.{word, value}
-use Rattle.deck.proofs.Looks.{look-there}
+use Rattle.deck.proofs.Looks.{block-sound, reel-sound, look-there}
 use Rattle.image.specs.Stored.{stored, stored-as}
 use Rattle.image.specs.Strip.{block-bytes, reel-bytes, encoded, size, meant, place}
 use Rattle.image.specs.Cursor.{stored-at, Reads, Stands}
@@ -92,17 +92,6 @@ back-word (written bytes) ys s =
     ap (λ t. value (drop (n + 8 - 4) t)) split ∙ ap value (drop-at (word n ++ bytes) (word n ++ ys) (n + 8 - 4) (omega arith)) ∙ value-word n ys (omega (arith, s .1))
 back-word mark ys s = refl
 back-word bad ys s = refl
-
--- Every block of a sound set is sound.
-pub block-sound : (reel : Reel) (b : ℕ) → SoundBlocks reel → SoundBlock (getD reel b mark)
-block-sound [] b s = tt
-block-sound (x ∷ reel) zero s = s .0
-block-sound (x ∷ reel) (suc b) s = block-sound reel b (s .1)
-
-pub reel-sound : (set : TapeSet) (r : ℕ) → SoundReels set → (length (getD set r []) ≤ 65535) × SoundBlocks (getD set r [])
-reel-sound [] r s = (omega arith, tt)
-reel-sound (x ∷ set) zero s = s .0
-reel-sound (x ∷ set) (suc r) s = reel-sound set r (s .1)
 
 pub size-four : (b : Block) → 4 ≤ size (stored-as b)
 size-four (written bytes) = omega arith

@@ -4,7 +4,8 @@ use Prim.Native.Nat.{_+_}
 use Rattle.image.specs.Cursor.{Stands}
 use Rattle.image.specs.Strip.{size, meant}
 use Rattle.image.proofs.Options.{none-some, some-same}
-use Rattle.image.proofs.Places.{stands-on, reel-sound}
+use Rattle.deck.proofs.Looks.{reel-sound}
+use Rattle.image.proofs.Places.{stands-on}
 use Rattle.image.proofs.Strips.{judged-sound}
 use Rattle.image.proofs.cursor.on.Needs as need
 
