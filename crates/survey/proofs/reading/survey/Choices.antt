@@ -4,7 +4,7 @@ use lib.ListN.{length}
 use Rattle.survey.specs.Machines.{Steady}
 use Rattle.survey.specs.Surveys.{feed, start}
 use Rattle.survey.proofs.Feeding.{from-reel}
-use Rattle.survey.proofs.survey.survey.Given as given
+use Rattle.survey.proofs.reading.survey.Given as given
 
 abbrev pub Inv-loop-reel : given.InvT-loop-reel
 Inv-loop-reel g l =

@@ -5,7 +5,7 @@ use lib.ListN.{length, getD}
 use Rattle.survey.specs.Machines.{Steady}
 use Rattle.survey.specs.Surveys.{feed-reel}
 use Rattle.survey.proofs.Feeding.{from-block}
-use Rattle.survey.proofs.survey.survey_reel.Given as given
+use Rattle.survey.proofs.reading.survey_reel.Given as given
 
 abbrev pub Inv-loop-block : given.InvT-loop-block
 Inv-loop-block g l =

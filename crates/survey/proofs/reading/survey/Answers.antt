@@ -8,7 +8,7 @@ use Rattle.std.proofs.shelf.Results.{err-from-errBy}
 use Rattle.survey.specs.Machines.{Steady}
 use Rattle.survey.specs.Surveys.{feed-reel, feed, start, surveyed, told-fault}
 use Rattle.survey.proofs.Feeding.{feed-over, reel-fault, reel-more, steady-start, fault-of-set, accepted-of-set}
-use Rattle.survey.proofs.survey.survey.Needs as need
+use Rattle.survey.proofs.reading.survey.Needs as need
 
 pub loop-reel-holds : need.loop-reel-holds
 loop-reel-holds g c =

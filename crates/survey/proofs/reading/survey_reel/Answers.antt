@@ -13,8 +13,8 @@ use Rattle.deck.proofs.Looks.{reel-sound}
 use Rattle.survey.specs.Machines.{step}
 use Rattle.survey.specs.Surveys.{placed, place-of, told-fault}
 use Rattle.survey.proofs.Feeding.{block-there, feed-fault, feed-more, feed-last, same-look}
-use Rattle.survey.proofs.survey.survey_reel.Given.{Over}
-use Rattle.survey.proofs.survey.survey_reel.Needs as need
+use Rattle.survey.proofs.reading.survey_reel.Given.{Over}
+use Rattle.survey.proofs.reading.survey_reel.Needs as need
 
 pub returns-in-Break-take : need.returns-in-Break-take
 returns-in-Break-take g c =

@@ -6,7 +6,7 @@ use Rattle.deck.proofs.Looks.{never-short, look-sound}
 use Rattle.survey.specs.Machines.{step}
 use Rattle.survey.specs.Surveys.{shown-in, placed}
 use Rattle.survey.proofs.Seeing.{shown-fetched, told-is}
-use Rattle.survey.proofs.survey.take.Needs as need
+use Rattle.survey.proofs.reading.take.Needs as need
 
 pub unreachable-requires : need.unreachable-requires
 unreachable-requires g c κs =

@@ -1,0 +1,74 @@
+// Where the lines and sheets of an accepted set stand.
+ghost use mathlib.Core.Path.{_≡_};
+ghost use Prim.Native.Nat.{_<_};
+ghost use lib.ListN.{take};
+ghost use Rattle.std.specs.Options.{Cases};
+ghost use Rattle.reader.specs.Finding.{attributes, index-of, band-file, image-on, image-spot, line-spot, sheet-spot};
+use survey::Accepted;
+use survey::Bands;
+use survey::Form;
+use survey::Group;
+use survey::Layout;
+
+// A block of a reel, both counted from 1.
+#[derive(Clone, Copy)]
+pub struct Spot {
+    pub reel: u32,
+    pub block: u64,
+}
+
+// The image file that holds a band, and how the band's lines lie in it: line n is image block (n - 1) * stride + first.
+#[derive(Clone, Copy)]
+pub struct BandFile {
+    pub group: Group,
+    pub stride: u32,
+    pub first: u32,
+}
+
+// How many records an attributes file has.
+fn attributes(layout: Layout) -> u32
+    ensures { λ r. ⌜ r ≡ attributes layout ⌝ }
+{
+    1 + layout.ancillaries() + layout.annotations()
+}
+
+// At which place, counted from 0, a band stands among those present.
+fn index_of(bands: &Bands, code: u8) -> Option<usize>
+    ensures finds { λ r. ⌜ r ≡ index-of code (take (now (bands .entry) .count) (now (bands .entry) .codes)) 0 ⌝ }
+    ensures within { λ r. ⌜ Cases r (Unit {0}) (λ i. i < 5) ⌝ }
+{
+    for i in 0..5 {
+        if i >= bands.count {
+            return None;
+        }
+        if bands.codes[i] == code {
+            return Some(i);
+        }
+    }
+    None
+}
+
+// The image file of a band, if the band is present.
+pub(crate) fn band_file(accepted: &Accepted, code: u8) -> Option<BandFile>
+    ensures { λ r. ⌜ r ≡ band-file (now (accepted .entry)) code ⌝ }
+{
+    let place = index_of(&accepted.summary.bands, code)?;
+    let layout = accepted.summary.layout;
+    Some(match layout.form {
+        Form::Interleaved => BandFile {
+            group: accepted.places.table[0],
+            stride: layout.stride(),
+            first: (code as u32).saturating_sub(3),
+        },
+        Form::Sequential => BandFile {
+            group: accepted.places.table[place],
+            stride: 1,
+            first: 1,
+        },
+        Form::Vidicon => BandFile {
+            group: accepted.places.table[0],
+            stride: 1,
+            first: 1,
+        },
+    })
+}
