@@ -3,7 +3,7 @@ mod chart;
 mod cursor;
 mod found;
 mod next;
-mod refusal;
+pub mod refusal;
 mod scan;
 mod stored;
 pub mod strip;
