@@ -34,3 +34,50 @@ fn run_line(heap: Global, count: u32, kind: Kind) -> Result<String, AllocError>
         Kind::Absent => Ok(String::new(heap)),
     }
 }
+
+// How many blocks a reel has.
+fn count_blocks<D: Deck>(deck: &mut D, reel: u32) -> u32
+    ensures stays { λ _. ⌜ meaning (now (deck .exit)) ≡ meaning (now (deck .entry)) ⌝ }
+    ensures value { λ r. ⌜ r ≡ length (reel-of (meaning (now (deck .entry))) reel) ⌝ }
+{
+    let mut count = 0;
+    while deck.kind(reel, count + 1) != Kind::Absent {
+        count += 1;
+    }
+    count
+}
+
+// The lines of the runs of a reel.
+fn runs<D: Deck>(heap: Global, deck: &mut D, reel: u32) -> Result<String, AllocError>
+    ensures stays { λ _. ⌜ meaning (now (deck .exit)) ≡ meaning (now (deck .entry)) ⌝ }
+    ensures text { λ r. ⌜ made r (λ t. string-bytes t ≡ runs-text 1 (reel-of (meaning (now (deck .entry))) reel)) ⌝ }
+{
+    let mut text = String::new(heap);
+    let mut block = 1;
+    let mut count = 1;
+    let mut kind = deck.kind(reel, block);
+    while kind != Kind::Absent {
+        block += 1;
+        let next = deck.kind(reel, block);
+        if next == kind {
+            count += 1;
+        } else {
+            let line = run_line(heap, count, kind)?;
+            text.push_str(line.as_str())?;
+            kind = next;
+            count = 1;
+        }
+    }
+    Ok(text)
+}
+
+// A reel by its number.
+pub fn reel_listing<D: Deck>(heap: Global, deck: &mut D, reel: u32) -> Result<String, AllocError>
+    ensures stays { λ _. ⌜ meaning (now (deck .exit)) ≡ meaning (now (deck .entry)) ⌝ }
+    ensures text { λ r. ⌜ made r (λ t. string-bytes t ≡ reel-text reel (reel-of (meaning (now (deck .entry))) reel)) ⌝ }
+{
+    let count = count_blocks(deck, reel);
+    let blocks = noun(count, "block", "blocks");
+    let runs = runs(heap, deck, reel)?;
+    format!(heap, "reel {reel}: {count} {blocks}\n{runs}")
+}
