@@ -3,8 +3,14 @@ mod chart;
 mod cursor;
 mod found;
 mod next;
-pub mod refusal;
+mod refusal;
 mod scan;
 mod stored;
-pub mod strip;
+mod strip;
 mod word;
+
+pub use refusal::Cause;
+pub use refusal::Refusal;
+pub use refusal::Unopened;
+pub use strip::Strip;
+pub use strip::StripDeck;

@@ -1,2 +1,3 @@
 pub mod Reels
 pub mod Going
+pub mod Listed
