@@ -1,17 +1,17 @@
 -- How far a reel's runs have been written.
-use mathlib.Core.Path.{_≡_, refl, sym, ap, subst, _∙_}
+use mathlib.Core.Path.{_≡_, refl, sym, ap, _∙_}
 use mathlib.Core.Bool.{cond}
 use mathlib.Core.List.{List, [], _∷_, _++_, append-nil, append-assoc}
-use Prim.Native.Nat.{ℕ, zero, suc, _+_, _≤_, _<_}
+use Prim.Native.Nat.{ℕ, zero, suc, _+_, _≤_}
 use native.Mathlib.Numerals.{add-one}
 use native.Mathlib.Omega.{arith}
 use lib.ListN.{length, drop}
-use Rattle.std.specs.declared.option.Option.the-variants.{Some, None}
+use Rattle.std.specs.declared.option.Option.the-variants.{Some}
 use Rattle.deck.specs.Answers.{kind-of}
 use Rattle.deck.specs.Tape.{Reel, nth, from-one}
 use Rattle.deck.specs.declared.Kind.{Kind}
 use Rattle.deck.specs.declared.Kind.the-variants.{Absent}
-use Rattle.listing.specs.Blocks.{alike, run-text, runs-text}
+use Rattle.listing.specs.Blocks.{run-text, runs-text}
 use Rattle.listing.proofs.Reels.{inside, past, alike-same, alike-differ}
 
 same-run : (xs : Reel) (i n : ℕ) → (kind-of (nth xs i) ≡ Absent → ⊥) → kind-of (nth xs (suc i)) ≡ kind-of (nth xs i) → runs-text n (drop i xs) ≡ runs-text (n + 1) (drop (suc i) xs)
@@ -71,7 +71,7 @@ going-next xs block count kind text g some ne =
     let next : kind-of (from-one xs (block + 1)) ≡ kind-of (nth xs (suc (g .at))) = ap kind-of (next-is xs block (g .at) (g .is)) in
     let rest = runs-text 1 (drop (suc (g .at)) xs) in
     let ends : runs-text count (drop (g .at) xs) ≡ run-text count kind ++ rest =
-      run-ends xs (g .at) count (λ a. some (g .here ∙ a)) (λ a. ne (next ∙ a ∙ sym (g .here))) ∙ ap (λ k. run-text count k ++ rest) (sym (g .here)) in
+    run-ends xs (g .at) count (λ a. some (g .here ∙ a)) (λ a. ne (next ∙ a ∙ sym (g .here))) ∙ ap (λ k. run-text count k ++ rest) (sym (g .here)) in
     record {
       at = suc (g .at);
       is = omega (arith, g .is);

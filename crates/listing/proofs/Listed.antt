@@ -33,7 +33,7 @@ listed-next set now reel text line after l h stays e a =
     let here = reel-text reel (reel-of set reel) in
     let rest = reels-text (reel + 1) (drop (suc (l .at)) set) in
     let on : reels-text reel (drop (l .at) set) ≡ here ++ rest =
-      next-reel set (l .at) reel (omega (arith, l .is)) ∙ ap (λ n. reel-text reel (reel-or-none (from-one set n)) ++ rest) (sym (l .is)) in
+    next-reel set (l .at) reel (omega (arith, l .is)) ∙ ap (λ n. reel-text reel (reel-or-none (from-one set n)) ++ rest) (sym (l .is)) in
     let is : after ≡ text ++ here = a ∙ ap (λ t. text ++ t) (e ∙ ap (λ s. reel-text reel (reel-of s reel)) stays) in
     record {
       at = suc (l .at);

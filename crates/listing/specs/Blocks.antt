@@ -8,7 +8,6 @@ use lib.ListN.{length}
 use Rattle.std.specs.Written.{decimal}
 use Rattle.std.specs.declared.option.Option.{Option}
 use Rattle.std.specs.declared.option.Option.the-variants.{Some, None}
-use Rattle.std.specs.declared.result.Result.the-variants.{Ok, Err}
 use Rattle.deck.specs.Answers.{kind-of}
 use Rattle.deck.specs.Tape.{Block, written, mark, bad, Reel, TapeSet, from-one}
 use Rattle.deck.specs.declared.Kind.{Kind}

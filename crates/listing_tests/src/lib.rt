@@ -10,11 +10,14 @@ mod tests {
     use std::test::*;
 
     const MARK: [u8; 4] = [0, 0, 0, 0];
+
     const BAD: [u8; 4] = [255, 255, 255, 255];
+
     const END: [u8; 4] = [255, 255, 255, 254];
 
     // A record of one byte, and one of two.
     const ONE: [u8; 9] = [0, 0, 0, 1, 7, 0, 0, 0, 1];
+
     const TWO: [u8; 10] = [0, 0, 0, 2, 7, 7, 0, 0, 0, 2];
 
     fn listed(heap: Global, parts: &[&[u8]]) -> Result<String, AllocError> {
@@ -34,19 +37,28 @@ mod tests {
     #[test]
     fn equal_and_unequal_records(rt: LibcRuntime) -> Result<(), Fail> {
         let text = listed(rt.alloc(), &[&ONE, &ONE, &TWO, &ONE, &END])?;
-        check_eq(text.as_str(), "reel 1: 4 blocks\n2 records of 1\n1 record of 2\n1 record of 1\n")
+        check_eq(
+            text.as_str(),
+            "reel 1: 4 blocks\n2 records of 1\n1 record of 2\n1 record of 1\n",
+        )
     }
 
     #[test]
     fn marks_and_bad_blocks(rt: LibcRuntime) -> Result<(), Fail> {
         let text = listed(rt.alloc(), &[&MARK, &BAD, &BAD, &MARK, &MARK, &BAD, &END])?;
-        check_eq(text.as_str(), "reel 1: 6 blocks\n1 mark\n2 bad\n2 marks\n1 bad\n")
+        check_eq(
+            text.as_str(),
+            "reel 1: 6 blocks\n1 mark\n2 bad\n2 marks\n1 bad\n",
+        )
     }
 
     #[test]
     fn run_ends_with_its_reel(rt: LibcRuntime) -> Result<(), Fail> {
         let text = listed(rt.alloc(), &[&ONE, &END, &ONE, &ONE, &END])?;
-        check_eq(text.as_str(), "reel 1: 1 block\n1 record of 1\nreel 2: 2 blocks\n2 records of 1\n")
+        check_eq(
+            text.as_str(),
+            "reel 1: 1 block\n1 record of 1\nreel 2: 2 blocks\n2 records of 1\n",
+        )
     }
 
     #[test]

@@ -4,7 +4,6 @@ use borrow.Author.Needs.{needs}
 use native.Mathlib.Omega.{arith}
 use lib.ListN.{length}
 use Rattle.deck.specs.Answers.{kind-of}
-use Rattle.deck.specs.Tape.{nth}
 use Rattle.deck.specs.declared.Kind.the-variants.{Absent}
 use Rattle.listing.specs.Blocks.{reel-of}
 use Rattle.listing.proofs.Reels.{few-blocks, kind-on, behind, inside, past}

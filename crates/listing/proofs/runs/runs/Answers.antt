@@ -70,7 +70,7 @@ new g c =
     let line = c .as-str .ensures .value ∙ c .in-Continue-line .ensures tt in
     let text = pushed (c .as-str .result .now) refl (c .in-Continue-push-str .was tt) (c .push-str .ensures .bytes) ∙ ap (λ t. string-bytes (c .loop-heap .text) ++ t) line in
     subst (λ k. Going xs (c .loop-heap .block + 1) 1 k (string-bytes (c .push-str .last .self))) (sym is)
-      (subst (Going xs (c .loop-heap .block + 1) 1 (kind-of (from-one xs (c .loop-heap .block + 1)))) (sym text) go)
+    (subst (Going xs (c .loop-heap .block + 1) 1 (kind-of (from-one xs (c .loop-heap .block + 1)))) (sym text) go)
 
 pub loop-heap-less : need.loop-heap-less
 loop-heap-less g c = omega (arith, new g c .is, new g c .within)
@@ -85,5 +85,5 @@ returns g c =
     record {
       stays = c .loop-heap .inv .0 ∙ c .kind-kind .ensures .stays;
       text = going-done (reel-of set (c .args .reel)) (c .loop-heap .block) (c .loop-heap .count) (c .loop-heap .kind) (string-bytes (c .loop-heap .text)) (c .loop-heap .inv .1) none
-        ∙ ap (λ s. runs-text 1 (reel-of s (c .args .reel))) (c .kind-kind .ensures .stays);
+          ∙ ap (λ s. runs-text 1 (reel-of s (c .args .reel))) (c .kind-kind .ensures .stays);
     }
