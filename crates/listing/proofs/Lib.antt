@@ -1,0 +1,3 @@
+pub mod Reels
+pub mod Going
+pub mod Listed
