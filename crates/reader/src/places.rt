@@ -1,7 +1,7 @@
 // Where the lines and sheets of an accepted set stand.
 ghost use mathlib.Core.Path.{_≡_};
 ghost use Prim.Native.Nat.{_<_};
-ghost use lib.ListN.{take};
+ghost use lib.ListN.{length, take};
 ghost use Rattle.std.specs.Options.{Cases};
 ghost use Rattle.reader.specs.Finding.{attributes, index-of, band-file, image-on, image-spot, line-spot, sheet-spot};
 use survey::Accepted;
@@ -32,20 +32,25 @@ fn attributes(layout: Layout) -> u32
     1 + layout.ancillaries() + layout.annotations()
 }
 
-// At which place, counted from 0, a band stands among those present.
-fn index_of(bands: &Bands, code: u8) -> Option<usize>
-    ensures finds { λ r. ⌜ r ≡ index-of code (take (now (bands .entry) .count) (now (bands .entry) .codes)) 0 ⌝ }
-    ensures within { λ r. ⌜ Cases r (Unit {0}) (λ i. i < 5) ⌝ }
+// At which place, counted from 0, a code stands among others.
+fn index_in(codes: &[u8], code: u8) -> Option<usize>
+    ensures finds { λ r. ⌜ r ≡ index-of code (now (codes .entry)) 0 ⌝ }
+    ensures within { λ r. ⌜ Cases r (Unit {0}) (λ i. i < length (now (codes .entry))) ⌝ }
 {
-    for i in 0..5 {
-        if i >= bands.count {
-            return None;
-        }
-        if bands.codes[i] == code {
+    for (i, c) in codes.iter().enumerate() {
+        if *c == code {
             return Some(i);
         }
     }
     None
+}
+
+// The same among the bands present.
+fn index_of(bands: &Bands, code: u8) -> Option<usize>
+    ensures finds { λ r. ⌜ r ≡ index-of code (take (now (bands .entry) .count) (now (bands .entry) .codes)) 0 ⌝ }
+    ensures within { λ r. ⌜ Cases r (Unit {0}) (λ i. i < 5) ⌝ }
+{
+    index_in(&bands.codes[0..bands.count.min(5)], code)
 }
 
 // The image file of a band, if the band is present.
