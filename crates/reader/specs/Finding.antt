@@ -60,10 +60,19 @@ image-spot g l (Some s) = Some (spot (s .reel) (cond (eqb (s .reel) (g .header .
 abbrev pub line-spot : BandFile → Layout → ℕ → Option Spot
 line-spot f l n = image-spot (f .group) l (image-on ((n - 1) * f .stride + f .first) 0 1 (f .group .through))
 
--- A sheet by its kind: 1 the header, 2 an ancillary, 3 an annotation, 4 a trailer record; and by its index, from 1.
+-- The sheets of a kind: 1 the header, 2 the ancillary, 3 the annotation, 4 the trailer records. Where the first one stands, and how many there
+-- are.
+abbrev pub shelf : Group → Layout → ℕ → Option (Spot × ℕ)
+shelf g l kind =
+    cond (eqb kind 1) (Some (spot (g .header .reel) (g .header .block), 1))
+      (cond (eqb kind 2) (Some (spot (g .header .reel) (g .header .block + 1), ancillaries l))
+        (cond (eqb kind 3) (Some (spot (g .header .reel) (g .header .block + 1 + ancillaries l), annotations (l .correction)))
+          (cond (eqb kind 4) (Some (spot (g .trailer .reel) (g .trailer .block), g .trailers)) None)))
+
+-- The sheet of an index, from 1.
+abbrev pub sheet-on : Option (Spot × ℕ) → ℕ → Option Spot
+sheet-on None index = None
+sheet-on (Some s) index = cond (leb 1 index && leb index (s .1)) (Some (spot (s .0 .reel) (s .0 .block + (index - 1)))) None
+
 abbrev pub sheet-spot : Group → Layout → ℕ → ℕ → Option Spot
-sheet-spot g l kind index =
-    cond (eqb kind 1) (cond (eqb index 1) (Some (spot (g .header .reel) (g .header .block))) None)
-      (cond (eqb kind 2) (cond (leb 1 index && leb index (ancillaries l)) (Some (spot (g .header .reel) (g .header .block + index))) None)
-        (cond (eqb kind 3) (cond (leb 1 index && leb index (annotations (l .correction))) (Some (spot (g .header .reel) (g .header .block + ancillaries l + index))) None)
-          (cond (eqb kind 4) (cond (leb 1 index && leb index (g .trailers)) (Some (spot (g .trailer .reel) (g .trailer .block + (index - 1)))) None) None)))
+sheet-spot g l kind index = sheet-on (shelf g l kind) index
