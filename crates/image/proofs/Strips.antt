@@ -40,7 +40,7 @@ other : {X : Type 0} (b : Bool) (w v : Verdict X) (x : X) → (w ≡ Ok x → �
 other true w v x n h = absurd (n h)
 other false w v x n h = (refl, h)
 
-chosen : {X : Type 0} (b : Bool) (e : ℕ × ℕ) (y x : X) → cond {A = Verdict X} b (Ok y) (Err e) ≡ Ok x → (b ≡ true) × (y ≡ x)
+pub chosen : {X : Type 0} (b : Bool) (e : ℕ × ℕ) (y x : X) → cond {A = Verdict X} b (Ok y) (Err e) ≡ Ok x → (b ≡ true) × (y ≡ x)
 chosen true e y x h = (refl, cc)
 chosen false e y x h = let z : _≡_ {A = ℕ} 0 1 = cc in absurd (omega arith)
 

@@ -2,6 +2,7 @@
 mod chart;
 mod cursor;
 mod found;
+mod indexed;
 mod next;
 mod refusal;
 mod scan;
