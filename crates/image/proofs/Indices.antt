@@ -46,7 +46,7 @@ say-reels xs n s l u =
     let rest : cond {A = Verdict ℕ} (eqb n 0) (Err (2, 0)) (cond (ltb 9 n) (Err (3, 0)) (Ok n)) ≡ Ok n = grind (arith, tells) in
     ap (λ v. and-then v (λ m. cond (eqb m 0) (Err (2, 0)) (cond (ltb 9 m) (Err (3, 0)) (Ok m)))) (says-whole xs 0 n s) ∙ rest
 
-count-says : (xs : List ℕ) (at n : ℕ) → block-count xs at ≡ Ok n → says xs at n × (n ≤ 65535)
+pub count-says : (xs : List ℕ) (at n : ℕ) → block-count xs at ≡ Ok n → says xs at n × (n ≤ 65535)
 count-says xs at n e =
     let w = and-then-ok (whole xs at) (λ m. cond (ltb 65535 m) (Err (3, at)) (Ok m)) n e in
     let few = past (ltb 65535 (w .0)) (3, at) (Ok (w .0)) n (w .2) in
@@ -90,6 +90,10 @@ entry-is xs head at b e =
     let o = and-then-ok (whole xs at) (λ offset. and-then (whole xs (at + 4)) (λ kind. check-entry xs head offset (at + 4) (stored kind))) b e in
     let k = and-then-ok (whole xs (at + 4)) (λ kind. check-entry xs head (o .0) (at + 4) (stored kind)) b (o .2) in
     checked-entry xs head at (o .0) (k .0) b (stored (k .0)) (whole-says xs at (o .0) (o .1)) (whole-says xs (at + 4) (k .0) (k .1)) refl (k .2)
+
+-- One count more.
+pub sum-on : (total n : ℕ) (ns : List ℕ) → _≡_ {A = Verdict ℕ} (Ok (total + sum (n ∷ ns))) (Ok (total + n + sum ns))
+sum-on total n ns = ap Ok (omega (arith, sumBy-cons (λ x. x) n ns))
 
 -- And an entry that is a sound block's is read as that block.
 read-entry : (xs : List ℕ) (head at offset : ℕ) (b : Block) → SoundBlock b → says xs at offset → says xs (at + 4) (word-of (stored-as b)) → entry xs head at ≡ check-entry xs head offset (at + 4) (Some (stored-as b))

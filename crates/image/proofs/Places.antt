@@ -22,7 +22,7 @@ use Rattle.image.specs.Stored.{stored, stored-as}
 use Rattle.image.specs.Strip.{block-bytes, reel-bytes, encoded, size, meant, place}
 use Rattle.image.specs.Cursor.{stored-at, Reads, Stands}
 use Rattle.image.specs.declared.cursor.Cursor.{Cursor}
-use Rattle.image.specs.Found.{seen, Inside, shown-kind, found-behind, found-at}
+use Rattle.image.specs.Found.{seen, Inside, shown-kind, found-if, found-at}
 use Rattle.image.specs.declared.found.Found.{Found}
 use Rattle.image.specs.declared.found.Found.the-variants as founds
 use Rattle.image.specs.declared.stored.Stored.{Stored}
@@ -110,7 +110,7 @@ size-four mark = lit≤ tt
 size-four bad = lit≤ tt
 
 -- A kind word at a place within the strip.
-stored-there : (xs : List ℕ) (at : ℕ) (b : Block) → SoundBlock b → at + 4 ≤ length xs → value (drop at xs) ≡ word-of (stored-as b) → stored-at xs at ≡ Some (stored-as b)
+pub stored-there : (xs : List ℕ) (at : ℕ) (b : Block) → SoundBlock b → at + 4 ≤ length xs → value (drop at xs) ≡ word-of (stored-as b) → stored-at xs at ≡ Some (stored-as b)
 stored-there xs at b s l v = cond-false (ltb (length xs) (at + 4)) None (stored (value (drop at xs))) (le-ltb (length xs) (at + 4) l) ∙ ap stored v ∙ stored-word b s
 
 -- What is known of a place of a strip at which a block stands.
@@ -190,7 +190,7 @@ stands-behind xs c reads s h =
     }
 
 -- What is found at a block's place is the block.
-found-as : (xs : List ℕ) (at : ℕ) (b : Block) → Block-at xs at b → (seen xs (found-behind at (Some (stored-as b))) ≡ Some b) × Inside xs (found-behind at (Some (stored-as b)))
+found-as : (xs : List ℕ) (at : ℕ) (b : Block) → Block-at xs at b → (seen xs (found-if (at + 4) (Some (stored-as b))) ≡ Some b) × Inside xs (found-if (at + 4) (Some (stored-as b)))
 found-as xs at (written bytes) h =
     let there : drop (at + 4) xs ≡ drop 4 (block-bytes (written bytes) ++ h .bytes .0) = sym (drop-drop 4 at xs) ∙ ap (drop 4) (h .bytes .1) in
     (ap (λ t. Some (written (take (length bytes) t))) there ∙ ap Some (block-of (written bytes) (h .bytes .0)), omega (arith, h .fits))
@@ -198,7 +198,7 @@ found-as xs at mark h = (refl, tt)
 found-as xs at bad h = (refl, tt)
 
 pub found-block : (xs : List ℕ) (at : ℕ) (b : Block) → Block-at xs at b → (seen xs (found-at xs at) ≡ Some b) × Inside xs (found-at xs at)
-found-block xs at b h = subst (λ o. (seen xs (found-behind at o) ≡ Some b) × Inside xs (found-behind at o)) (sym (front-kind xs at b h)) (found-as xs at b h)
+found-block xs at b h = subst (λ o. (seen xs (found-if (at + 4) o) ≡ Some b) × Inside xs (found-if (at + 4) o)) (sym (front-kind xs at b h)) (found-as xs at b h)
 
 pub kind-seen : (xs : List ℕ) (f : Found) → Inside xs f → shown-kind f ≡ kind-of (seen xs f)
 kind-seen xs (founds.Record at n) h =

@@ -2,7 +2,8 @@
 use mathlib.Core.Path.{_≡_, refl, sym, ap, subst, _∙_}
 use mathlib.Core.List.{List, [], _∷_}
 use Prim.Native.Nat.{ℕ, zero, suc, _+_, _*_, _-_, _≤_, _<_}
-use native.Mathlib.Nat.{mul-suc, add-assoc, add-comm, mul-zero, add-zero}
+use native.Mathlib.Nat.{mul-suc, mul-zero}
+use native.Mathlib.Numerals.{add-one}
 use native.Mathlib.Omega.{arith}
 use lib.ListN.{length, getD}
 use Rattle.std.specs.declared.result.Result.{Result}
@@ -14,6 +15,16 @@ use Rattle.image.specs.Indexed.{and-then, passed, row}
 pub and-then-ok : {X Y : Type 0} (v : Verdict X) (f : X → Verdict Y) (y : Y) → and-then v f ≡ Ok y → (x : X) × (v ≡ Ok x) × (f x ≡ Ok y)
 and-then-ok (Ok x) f y e = (x, refl, e)
 and-then-ok (Err z) f y e = let n : _≡_ {A = ℕ} 0 1 = cc in absurd (omega arith)
+
+-- And what refuses without its result refuses.
+pub passed-err : {X : Type 0} (v : Verdict X) (e : ℕ × ℕ) → passed v ≡ Err e → v ≡ Err e
+passed-err (Ok x) e h = let n : _≡_ {A = ℕ} 0 1 = cc in absurd (omega arith)
+passed-err (Err z) e h = cc
+
+-- Verdicts one behind the other, grouped the other way.
+regrouped : {X Y Z : Type 0} (v : Verdict X) (g : X → Y) (f : Y → Verdict Z) (h : X → Verdict Z) → ((x : X) → f (g x) ≡ h x) → and-then (and-then v (λ x. Ok (g x))) f ≡ and-then v h
+regrouped (Ok x) g f h e = e x
+regrouped (Err z) g f h e = refl
 
 -- The next place of a row.
 next-place : (at step i : ℕ) → at + step + step * i ≡ at + step * suc i
@@ -55,3 +66,27 @@ module _ {X : Type 0} (read : ℕ → Verdict X) (step : ℕ) where
       let rest = row-from (at + step) xs d (λ i l. ap read (next-place at step i) ∙ h (suc i) (omega arith)) in
       ap (λ v. and-then v (λ y. and-then (row read step (at + step) (length xs)) (λ more. Ok (y ∷ more)))) first
         ∙ ap (λ v. and-then v (λ more. Ok (x ∷ more))) rest
+
+  -- What is left of a row behind some of its results: the next result is read, or refused, or there is none.
+  pub row-on : {Y : Type 0} (f g : List X → Verdict Y) (at n i : ℕ) (x : X) → i < n → read (at + step * i) ≡ Ok x → ((more : List X) → f (x ∷ more) ≡ g more) → and-then (row read step (at + step * i) (n - i)) f ≡ and-then (row read step (at + step * (i + 1)) (n - (i + 1))) g
+  row-on f g at n i x h e same =
+      let here = at + step * i in
+      let left : n - i ≡ suc (n - (i + 1)) = omega arith in
+      let on : here + step ≡ at + step * (i + 1) = omega (arith, ap (λ k. step * k) (add-one i), mul-suc step i) in
+      ap (λ k. and-then (row read step here k) f) left
+        ∙ ap (λ v. and-then (and-then v (λ y. and-then (row read step (here + step) (n - (i + 1))) (λ more. Ok (y ∷ more)))) f) e
+        ∙ regrouped (row read step (here + step) (n - (i + 1))) (λ more. x ∷ more) f g same
+        ∙ ap (λ k. and-then (row read step k (n - (i + 1))) g) on
+
+  pub row-stops : {Y : Type 0} (f : List X → Verdict Y) (at n i : ℕ) (e : ℕ × ℕ) → i < n → read (at + step * i) ≡ Err e → and-then (row read step (at + step * i) (n - i)) f ≡ Err e
+  row-stops f at n i e h is =
+      let here = at + step * i in
+      let left : n - i ≡ suc (n - (i + 1)) = omega arith in
+      ap (λ k. and-then (row read step here k) f) left
+        ∙ ap (λ v. and-then (and-then v (λ y. and-then (row read step (here + step) (n - (i + 1))) (λ more. Ok (y ∷ more)))) f) is
+
+  pub row-ends : {Y : Type 0} (f : List X → Verdict Y) (at n i : ℕ) → n ≤ i → and-then (row read step (at + step * i) (n - i)) f ≡ f []
+  row-ends f at n i h = let none : n - i ≡ 0 = omega arith in ap (λ k. and-then (row read step (at + step * i) k) f) none
+
+  pub row-starts : {Y : Type 0} (f : List X → Verdict Y) (at n : ℕ) → and-then (row read step at n) f ≡ and-then (row read step (at + step * 0) (n - 0)) f
+  row-starts f at n = let all : n ≡ n - 0 = omega arith in ap (λ k. and-then (row read step k n) f) (sym (first-place at)) ∙ ap (λ k. and-then (row read step (at + step * 0) k) f) all

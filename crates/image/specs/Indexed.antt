@@ -78,6 +78,10 @@ reel-count xs = and-then (whole xs 0) (λ n. cond (eqb n 0) (Err (2, 0)) (cond (
 abbrev pub block-count : List ℕ → ℕ → Verdict ℕ
 block-count xs at = and-then (whole xs at) (λ n. cond (ltb 65535 n) (Err (3, at)) (Ok n))
 
+-- The block counts of so many reels together.
+abbrev pub block-total : List ℕ → ℕ → Verdict ℕ
+block-total xs reels = and-then (row (block-count xs) 4 4 reels) (λ ns. Ok (sum ns))
+
 -- The block with an offset and a kind word at a place: the kind is legal, the offset of a mark or a bad block is 0, and a record lies
 -- behind the header and inside the image.
 abbrev pub check-entry : List ℕ → ℕ → ℕ → ℕ → Option Stored → Verdict Block

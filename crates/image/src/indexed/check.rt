@@ -1,8 +1,9 @@
 // The words of an indexed image's header, with their checks.
 ghost use mathlib.Core.Path.{_≡_};
 ghost use Prim.Native.Nat.{_+_, _*_, _≤_};
-ghost use Rattle.image.specs.Indexed.{passed, whole, reel-count, block-count, entry};
+ghost use Rattle.image.specs.Indexed.{first-entry, header, passed, row, whole, reel-count, block-count, block-total, entry, verdict};
 ghost use Rattle.image.specs.Stored.{numbered};
+ghost use Rattle.std.specs.Vec.{made};
 use super::super::refusal::Cause;
 use super::super::refusal::Refusal;
 use super::super::refusal::refused;
@@ -69,4 +70,39 @@ fn check_entry(bytes: &[u8], header: usize, at: usize) -> Result<(), Refusal>
             Ok(())
         }
     }
+}
+
+// How many blocks the reels have together.
+fn total_blocks(bytes: &[u8], reels: usize) -> Result<usize, Refusal>
+    requires { ⌜ reels ≤ 9 ⌝ }
+    ensures counts { λ r. ⌜ numbered r ≡ block-total (now (bytes .entry)) reels ⌝ }
+    ensures few { λ r. ⌜ made r (λ blocks. blocks ≤ 65535 * 9) ⌝ }
+{
+    let mut blocks = 0;
+    for reel in 0..reels {
+        blocks += block_count(bytes, 4 + 4 * reel)? as usize;
+    }
+    Ok(blocks)
+}
+
+// The entries of so many blocks, behind the counts of so many reels.
+fn check_entries(bytes: &[u8], reels: usize, blocks: usize) -> Result<(), Refusal>
+    requires few { ⌜ reels ≤ 9 ⌝ ∗ ⌜ blocks ≤ 65535 * 9 ⌝ }
+    ensures { λ r. ⌜ numbered r ≡ passed (row (entry (now (bytes .entry)) (header reels blocks)) 8 (first-entry reels) blocks) ⌝ }
+{
+    let first = 4 + 4 * reels;
+    let header = first + 8 * blocks;
+    for block in 0..blocks {
+        check_entry(bytes, header, first + 8 * block)?;
+    }
+    Ok(())
+}
+
+// The header's words in order: the first check that fails.
+pub fn check(bytes: &[u8]) -> Result<(), Refusal>
+    ensures { λ r. ⌜ numbered r ≡ passed (verdict (now (bytes .entry))) ⌝ }
+{
+    let reels = reel_count(bytes)?;
+    let blocks = total_blocks(bytes, reels)?;
+    check_entries(bytes, reels, blocks)
 }
