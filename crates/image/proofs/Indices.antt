@@ -18,6 +18,7 @@ use Rattle.std.specs.declared.result.Result.the-variants.{Ok, Err}
 use Rattle.deck.specs.Tape.{Block, written, mark, bad, Reel, TapeSet, Sound, SoundBlock, SoundBlocks, SoundReels}
 use Rattle.deck.specs.Words.{value}
 use Rattle.image.specs.Indexed.{blocks, first-entry, header, says, Lies, Entry, Encodes, and-then, row, whole, reel-count, block-count, check-entry, entry, cut, reel-entries, verdict}
+use Rattle.image.specs.Opened.{Exactly}
 use Rattle.image.specs.Stored.{Verdict, stored, stored-as}
 use Rattle.image.specs.declared.stored.Stored.{Stored}
 use Rattle.image.specs.declared.stored.Stored.the-variants.{Record, Mark, Bad}
@@ -241,3 +242,6 @@ judged-so xs set s e =
       ∙ ap (λ m. and-then (row (entry xs (header n m)) 8 (first-entry n) m) (λ bs. Ok (cut (lengths set) bs))) (sum-lengths set)
       ∙ ap (λ v. and-then v (λ bs. Ok (cut (lengths set) bs))) entries
       ∙ ap Ok (cut-set set)
+
+pub exactly-judged : (xs : List ℕ) → Exactly (Encodes xs) (verdict xs)
+exactly-judged xs = record { only = judged xs; every = judged-so xs }

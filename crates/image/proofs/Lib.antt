@@ -6,3 +6,4 @@ pub mod Scans
 pub mod Places
 pub mod Openings
 pub mod Indices
+pub mod Listings

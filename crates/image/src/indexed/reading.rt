@@ -1,0 +1,69 @@
+// The indexed image as a deck.
+ghost use mathlib.Core.Bool.{true};
+ghost use mathlib.Core.Path.{_≡_};
+ghost use Prim.Native.Nat.{_≤_};
+ghost use lib.ListN.{length, take};
+ghost use Rattle.std.specs.Results.{isOk};
+ghost use Rattle.deck.specs.Tape.{look};
+ghost use Rattle.image.specs.Found.{Inside, seen};
+ghost use Rattle.image.specs.Indexed.{blocks, verdict, meant};
+ghost use Rattle.image.specs.Opened.{indexed-set};
+use super::Indexed;
+use super::super::found::Found;
+use super::super::found::deliver;
+use super::super::found::listed_at;
+use super::super::word::known_word;
+use deck::Deck;
+use deck::Kind;
+use deck::Short;
+
+// How many blocks the reels before one have together.
+fn blocks_before(bytes: &[u8], reel: usize) -> usize
+    requires image { ⌜ isOk (verdict (now bytes)) ≡ true ⌝ }
+    requires there { ⌜ reel ≤ length (meant (now bytes)) ⌝ }
+    ensures { λ r. ⌜ r ≡ length (blocks (take reel (meant (now (bytes .entry))))) ⌝ }
+{
+    let mut before = 0;
+    for i in 0..reel {
+        before += known_word(bytes, 4 + 4 * i) as usize;
+    }
+    before
+}
+
+// Where a block lies, reel and block counted from 1.
+fn find(bytes: &[u8], reel: u32, block: u32) -> Found
+    requires { ⌜ isOk (verdict (now bytes)) ≡ true ⌝ }
+    ensures finds { λ r. ⌜ seen (now (bytes .entry)) r ≡ look (meant (now (bytes .entry))) reel block ⌝ }
+    ensures inside { λ r. ⌜ Inside (now (bytes .entry)) r ⌝ }
+{
+    if reel == 0 || block == 0 {
+        return Found::Absent;
+    }
+    let reels = known_word(bytes, 0) as usize;
+    let on = reel as usize - 1;
+    if on >= reels {
+        return Found::Absent;
+    }
+    if block > known_word(bytes, 4 + 4 * on) {
+        return Found::Absent;
+    }
+    let entry = blocks_before(bytes, on) + (block as usize - 1);
+    listed_at(bytes, 4 + 4 * reels + 8 * entry)
+}
+
+pub impl Deck for Indexed as IndexedDeck {
+    ghost meaning = { indexed-set };
+
+    fn reels(&mut self) -> u32 {
+        known_word(self.bytes.as_slice(), 0)
+    }
+
+    fn kind(&mut self, reel: u32, block: u32) -> Kind {
+        find(self.bytes.as_slice(), reel, block).kind()
+    }
+
+    fn fetch(&mut self, reel: u32, block: u32, buffer: &mut [u8]) -> Result<Kind, Short> {
+        let bytes = self.bytes.as_slice();
+        deliver(bytes, find(bytes, reel, block), buffer)
+    }
+}
