@@ -9,6 +9,8 @@ mod check;
 mod open;
 mod reading;
 
+pub use reading::IndexedDeck;
+
 // An indexed image, opened. Its bytes are the image of a sound set.
 #[derive(Drop)]
 pub struct Indexed {

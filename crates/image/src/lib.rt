@@ -7,5 +7,13 @@ mod next;
 mod refusal;
 mod scan;
 mod stored;
-pub mod strip;
+mod strip;
 mod word;
+
+pub use indexed::Indexed;
+pub use indexed::IndexedDeck;
+pub use refusal::Cause;
+pub use refusal::Refusal;
+pub use refusal::Unopened;
+pub use strip::Strip;
+pub use strip::StripDeck;

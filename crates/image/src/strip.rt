@@ -13,6 +13,8 @@ use super::cursor::Cursor;
 mod open;
 mod reading;
 
+pub use reading::StripDeck;
+
 // A strip, opened. Its bytes are the encoding of a sound set; the chart says where each reel lies; the cursor stands where the last
 // block was read, so that the next one is near.
 #[derive(Drop)]
