@@ -8,38 +8,21 @@ use lib.ListN.{length, take, drop, getD, length-append}
 use Rattle.std.specs.Results.{isOk}
 use Rattle.std.proofs.shelf.Lists.{getD-append-left, getD-append-add}
 use Rattle.std.specs.declared.option.Option.the-variants.{Some}
+use Rattle.deck.specs.Answers.{kind-of}
 use Rattle.deck.specs.Tape.{Block, written, mark, bad, Reel, TapeSet, Sound, SoundBlock, look}
 use Rattle.deck.specs.Words.{value}
 use Rattle.deck.proofs.Looks.{look-there}
 use Rattle.image.specs.Cursor.{stored-at}
-use Rattle.image.specs.Found.{seen, Inside, found-if, listed-at}
+use Rattle.image.specs.Found.{seen, Inside, shown-kind, found-if, listed-at}
 use Rattle.image.specs.Indexed.{blocks, first-entry, header, says, Entry, Encodes, verdict, meant}
 use Rattle.image.specs.Stored.{stored-as}
 use Rattle.image.proofs.Indices.{judged}
 use Rattle.image.proofs.Openings.{is-set}
-use Rattle.image.proofs.Places.{joined-at, block-sound, reel-sound, stored-there}
+use Rattle.image.proofs.Places.{joined-at, block-sound, reel-sound, stored-there, kind-seen}
 
 -- An opened image is the image of the set that it means.
 pub opened : (xs : List ℕ) → isOk (verdict xs) ≡ true → Sound (meant xs) × Encodes xs (meant xs)
 opened xs o = judged xs (meant xs) (is-set (verdict xs) o)
-
-pub reels-there : (xs : List ℕ) (n : ℕ) → isOk (verdict xs) ≡ true → n ≡ value xs → n ≡ length (meant xs)
-reels-there xs n o e = e ∙ opened xs o .1 .reels .1
-
--- The word of a reel's block count, and the count that it is.
-pub count-there : (xs : List ℕ) (i : ℕ) → isOk (verdict xs) ≡ true → i < length (meant xs) → says xs (4 + 4 * i) (length (getD (meant xs) i []))
-count-there xs i o h = opened xs o .1 .counts i h
-
-pub record Count (xs : List ℕ) (i n : ℕ) : Type 0 where
-  pub is : n ≡ length (getD (meant xs) i [])
-  pub short : n ≤ 65535
-  pub few : length (meant xs) ≤ 9
-
-pub counted : (xs : List ℕ) (i n : ℕ) → isOk (verdict xs) ≡ true → i < length (meant xs) → n ≡ value (drop (4 + 4 * i) xs) → Count xs i n
-counted xs i n o h e =
-    let s = opened xs o .0 in
-    let is : n ≡ length (getD (meant xs) i []) = e ∙ count-there xs i o h .1 in
-    record { is = is; short = omega (arith, is, reel-sound (meant xs) i (s .reels) .0); few = s .few }
 
 -- A block of a reel among all blocks of the set.
 module _ (set : TapeSet) (r b : ℕ) (on-reel : r < length set) (on-block : b < length (getD set r [])) where
@@ -71,14 +54,13 @@ kind-whole xs head at bad s l = (omega (arith, l .1 .0), stored-there xs (at + 4
 pub record Listed (xs : List ℕ) (at reel block : ℕ) : Type 0 where
   pub whole : at + 8 ≤ length xs
   pub finds : seen xs (listed-at xs at) ≡ look (meant xs) reel block
+  pub shows : shown-kind (listed-at xs at) ≡ kind-of (look (meant xs) reel block)
   pub inside : Inside xs (listed-at xs at)
 
 -- The entry that the counts lead to is that of the block that was asked for.
-pub listed-there : (xs : List ℕ) (reel block reels count before : ℕ) → isOk (verdict xs) ≡ true → 0 < reel → 0 < block → reel - 1 < reels → block ≤ count → reels ≡ value xs → count ≡ value (drop (4 + 4 * (reel - 1)) xs) → before ≡ length (blocks (take (reel - 1) (meant xs))) → Listed xs (4 + 4 * reels + 8 * (before + (block - 1))) reel block
-listed-there xs reel block reels count before o hr hb on-reel on-block reels-say count-says is =
-    let many : reels ≡ length (meant xs) = reels-there xs reels o reels-say in
+pub listed-there : (xs : List ℕ) (reel block reels count before : ℕ) → isOk (verdict xs) ≡ true → 0 < reel → 0 < block → reel - 1 < reels → block ≤ count → reels ≡ length (meant xs) → count ≡ length (getD (meant xs) (reel - 1) []) → before ≡ length (blocks (take (reel - 1) (meant xs))) → Listed xs (4 + 4 * reels + 8 * (before + (block - 1))) reel block
+listed-there xs reel block reels count before o hr hb on-reel on-block many counted is =
     let there : reel - 1 < length (meant xs) = omega arith in
-    let fits : block ≤ length (getD (meant xs) (reel - 1) []) = omega (arith, counted xs (reel - 1) count o there count-says .is) in
     let set = meant xs in
     let e = opened xs o in
     let on : block - 1 < length (getD set (reel - 1) []) = omega arith in
@@ -92,8 +74,5 @@ listed-there xs reel block reels count before o hr hb on-reel on-block reels-say
     let sound : SoundBlock b = block-sound (getD set (reel - 1) []) (block - 1) (reel-sound set (reel - 1) (e .0 .reels) .1) in
     let k = kind-whole xs head at b sound entry in
     let l = subst (λ s. (seen xs (found-if (value (drop at xs)) s) ≡ Some b) × Inside xs (found-if (value (drop at xs)) s)) (sym (k .1)) (listed-as xs head at b entry) in
-    record {
-      whole = k .0;
-      finds = l .0 ∙ sym (look-there set reel block hr hb there on);
-      inside = l .1;
-    }
+    let finds : seen xs (listed-at xs at) ≡ look set reel block = l .0 ∙ sym (look-there set reel block hr hb there on) in
+    record { whole = k .0; finds = finds; shows = kind-seen xs (listed-at xs at) (l .1) ∙ ap kind-of finds; inside = l .1 }
