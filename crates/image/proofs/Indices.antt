@@ -1,21 +1,20 @@
 -- The indexed image's laws: it is judged to be a set exactly where it is that set's image.
 use mathlib.Core.Path.{_≡_, refl, sym, ap, subst, _∙_}
-use mathlib.Core.Bool.{Bool, true, false, cond}
+use mathlib.Core.Bool.{cond}
 use mathlib.Core.List.{List, [], _∷_, _++_, map}
 use Prim.Native.Nat.{ℕ, zero, suc, _+_, _*_, _≤_, _<_}
 use native.Mathlib.Omega.{arith}
 use lib.Dec.{eqb, ltb}
 use lib.ListN.{length, take, drop, getD, length-append, length-take, length-drop}
 use Rattle.std.specs.shelf.Lists.{sum}
-use Rattle.std.proofs.shelf.Lists.{take-append-drop, length-take-le, nil-from-length, length-map, getD-map, take-at, drop-at, getD-append-left, getD-append-add}
+use Rattle.std.proofs.shelf.Lists.{take-append-drop, length-take-le, nil-from-length, length-map, getD-map, take-at, drop-at}
 use Rattle.std.proofs.shelf.Sums.{sumBy-cons}
 use Rattle.std.proofs.shelf.Tests.{ltb-false, eqb-true, eqb-false, le-ltb, cond-false}
 use Rattle.std.proofs.shelf.Ways.{tells}
 use Rattle.std.specs.declared.option.Option.{Option}
 use Rattle.std.specs.declared.option.Option.the-variants.{Some, None}
-use Rattle.std.specs.declared.result.Result.{Result}
 use Rattle.std.specs.declared.result.Result.the-variants.{Ok, Err}
-use Rattle.deck.specs.Tape.{Block, written, mark, bad, Reel, TapeSet, Sound, SoundBlock, SoundBlocks, SoundReels}
+use Rattle.deck.specs.Tape.{Block, written, mark, bad, TapeSet, Sound, SoundBlock, SoundBlocks, SoundReels}
 use Rattle.deck.specs.Words.{value}
 use Rattle.image.specs.Indexed.{blocks, first-entry, header, says, Lies, Entry, Encodes, and-then, row, whole, reel-count, block-count, check-entry, entry, cut, reel-entries, verdict}
 use Rattle.image.specs.Opened.{Exactly}

@@ -14,7 +14,7 @@ use Rattle.deck.specs.Words.{value}
 use Rattle.deck.proofs.Looks.{look-there}
 use Rattle.image.specs.Cursor.{stored-at}
 use Rattle.image.specs.Found.{seen, Inside, shown-kind, found-if, listed-at}
-use Rattle.image.specs.Indexed.{blocks, first-entry, header, says, Entry, Encodes, verdict, meant}
+use Rattle.image.specs.Indexed.{blocks, first-entry, header, Entry, Encodes, verdict, meant}
 use Rattle.image.specs.Stored.{stored-as}
 use Rattle.image.proofs.Indices.{judged}
 use Rattle.image.proofs.Openings.{is-set}

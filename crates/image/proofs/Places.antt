@@ -11,9 +11,8 @@ use Rattle.std.specs.Joined.{joined}
 use Rattle.std.proofs.shelf.Lists.{drop-at, drop-drop}
 use Rattle.std.proofs.shelf.Tests.{le-ltb, cond-false}
 use Rattle.std.proofs.shelf.Ways.{tells}
-use Rattle.std.specs.declared.option.Option.{Option}
 use Rattle.std.specs.declared.option.Option.the-variants.{Some, None}
-use Rattle.deck.specs.Tape.{Block, written, mark, bad, Reel, TapeSet, Sound, SoundBlock, SoundBlocks, SoundReels, look}
+use Rattle.deck.specs.Tape.{Block, written, mark, bad, Reel, TapeSet, SoundBlock, SoundBlocks, SoundReels, look}
 use Rattle.deck.specs.Answers.{kind-of}
 use Rattle.deck.specs.declared.Kind.the-variants as kinds
 use Rattle.deck.specs.Words.{word, value}
@@ -38,9 +37,6 @@ joined-at f (x ∷ xs) (suc i) d h =
     let further : drop (suc i + 1) (x ∷ xs) ≡ drop (i + 1) xs = ap (λ k. drop k (x ∷ xs)) (add-one (suc i)) ∙ ap (λ k. drop k xs) (sym (add-one i)) in
     ap (λ t. f x ++ t) (joined-at f xs i d (omega arith) ∙ ap (λ t. joined f (take i xs) ++ (f (getD xs i d) ++ joined f t)) (sym further))
       ∙ sym (append-assoc (f x) (joined f (take i xs)) (f (getD xs i d) ++ joined f (drop (suc i + 1) (x ∷ xs))))
-
-pub joined-from : {X A : Type 0} (f : X → List A) (xs : List X) (i : ℕ) (d : X) → i < length xs → drop (length (joined f (take i xs))) (joined f xs) ≡ f (getD xs i d) ++ joined f (drop (i + 1) xs)
-joined-from f xs i d h = ap (drop (length (joined f (take i xs)))) (joined-at f xs i d h) ∙ drop-append-seam (joined f (take i xs)) (f (getD xs i d) ++ joined f (drop (i + 1) xs))
 
 pub joined-length : {X A : Type 0} (f : X → List A) (xs : List X) (i : ℕ) (d : X) → i < length xs → length (joined f (take (i + 1) xs)) ≡ length (joined f (take i xs)) + length (f (getD xs i d))
 joined-length f [] i d h = absurd (omega arith)

@@ -1,12 +1,11 @@
 -- Results read one behind the other.
-use mathlib.Core.Path.{_≡_, refl, sym, ap, subst, _∙_}
+use mathlib.Core.Path.{_≡_, refl, sym, ap, _∙_}
 use mathlib.Core.List.{List, [], _∷_}
-use Prim.Native.Nat.{ℕ, zero, suc, _+_, _*_, _-_, _≤_, _<_}
+use Prim.Native.Nat.{ℕ, zero, suc, _+_, _*_, _-_, _<_}
 use native.Mathlib.Nat.{mul-suc, mul-zero}
 use native.Mathlib.Numerals.{add-one}
 use native.Mathlib.Omega.{arith}
 use lib.ListN.{length, getD}
-use Rattle.std.specs.declared.result.Result.{Result}
 use Rattle.std.specs.declared.result.Result.the-variants.{Ok, Err}
 use Rattle.image.specs.Stored.{Verdict}
 use Rattle.image.specs.Indexed.{and-then, passed, row}
@@ -67,7 +66,7 @@ module _ {X : Type 0} (read : ℕ → Verdict X) (step : ℕ) where
       ap (λ v. and-then v (λ y. and-then (row read step (at + step) (length xs)) (λ more. Ok (y ∷ more)))) first
         ∙ ap (λ v. and-then v (λ more. Ok (x ∷ more))) rest
 
-  -- What is left of a row behind some of its results: the next result is read, or refused, or there is none.
+  -- What is left of a row behind some of its results: the next result is read, or refused.
   pub row-on : {Y : Type 0} (f g : List X → Verdict Y) (at n i : ℕ) (x : X) → i < n → read (at + step * i) ≡ Ok x → ((more : List X) → f (x ∷ more) ≡ g more) → and-then (row read step (at + step * i) (n - i)) f ≡ and-then (row read step (at + step * (i + 1)) (n - (i + 1))) g
   row-on f g at n i x h e same =
       let here = at + step * i in
@@ -84,9 +83,3 @@ module _ {X : Type 0} (read : ℕ → Verdict X) (step : ℕ) where
       let left : n - i ≡ suc (n - (i + 1)) = omega arith in
       ap (λ k. and-then (row read step here k) f) left
         ∙ ap (λ v. and-then (and-then v (λ y. and-then (row read step (here + step) (n - (i + 1))) (λ more. Ok (y ∷ more)))) f) is
-
-  pub row-ends : {Y : Type 0} (f : List X → Verdict Y) (at n i : ℕ) → n ≤ i → and-then (row read step (at + step * i) (n - i)) f ≡ f []
-  row-ends f at n i h = let none : n - i ≡ 0 = omega arith in ap (λ k. and-then (row read step (at + step * i) k) f) none
-
-  pub row-starts : {Y : Type 0} (f : List X → Verdict Y) (at n : ℕ) → and-then (row read step at n) f ≡ and-then (row read step (at + step * 0) (n - 0)) f
-  row-starts f at n = let all : n ≡ n - 0 = omega arith in ap (λ k. and-then (row read step k n) f) (sym (first-place at)) ∙ ap (λ k. and-then (row read step (at + step * 0) k) f) all

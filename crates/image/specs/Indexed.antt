@@ -9,9 +9,8 @@ use Rattle.std.specs.Joined.{joined}
 use Rattle.std.specs.shelf.Lists.{sum}
 use Rattle.std.specs.declared.option.Option.{Option}
 use Rattle.std.specs.declared.option.Option.the-variants.{Some, None}
-use Rattle.std.specs.declared.result.Result.{Result}
 use Rattle.std.specs.declared.result.Result.the-variants.{Ok, Err}
-use Rattle.deck.specs.Tape.{Block, written, mark, bad, Reel, TapeSet}
+use Rattle.deck.specs.Tape.{Block, written, mark, bad, TapeSet}
 use Rattle.deck.specs.Words.{value}
 use Rattle.image.specs.Stored.{Verdict, set-of, stored, block}
 use Rattle.image.specs.declared.stored.Stored.{Stored}
