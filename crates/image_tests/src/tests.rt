@@ -27,7 +27,12 @@ fn spelt(heap: Global, words: &[u32], tail: &[u8]) -> Result<Vec<u8>, AllocError
 }
 
 // An image was refused with this number and place, and its bytes came back.
-fn refused<D: Drop>(opened: Result<D, Unopened>, bytes: &[u8], number: u32, offset: usize) -> Result<(), Fail> {
+fn refused<D: Drop>(
+    opened: Result<D, Unopened>,
+    bytes: &[u8],
+    number: u32,
+    offset: usize,
+) -> Result<(), Fail> {
     match opened {
         Ok(_) => Err(Fail::new("it opened")),
         Err(e) => {
@@ -64,7 +69,12 @@ fn strips_refused(rt: LibcRuntime) -> Result<(), Fail> {
         (b"\xff\xff\xff\xfe\xff\xff\xff\xff", 1, 8),
     ];
     for (bytes, number, offset) in cases {
-        refused(Strip::open(Vec::from_slice(heap, bytes)?), bytes, number, offset)?;
+        refused(
+            Strip::open(Vec::from_slice(heap, bytes)?),
+            bytes,
+            number,
+            offset,
+        )?;
     }
     Ok(())
 }
@@ -115,7 +125,9 @@ fn nine_reels(rt: LibcRuntime) -> Result<(), Fail> {
     let more = spelt(heap, &ends, b"\0")?;
     let given = more.clone()?;
     refused(Strip::open(more), given.as_slice(), 3, 36)?;
-    let mut indexed = opened(Indexed::open(spelt(heap, &[9, 0, 0, 0, 0, 0, 0, 0, 0, 0], b"free")?))?;
+    let mut indexed = opened(Indexed::open(
+        spelt(heap, &[9, 0, 0, 0, 0, 0, 0, 0, 0, 0], b"free")?,
+    ))?;
     check_eq(indexed.reels(), 9)
 }
 
@@ -233,7 +245,10 @@ fn alike<A: Deck, B: Deck>(a: &mut A, b: &mut B, reel: u32, block: u32) -> Resul
     let mut one = *b"--------";
     let mut two = *b"--------";
     check_eq(a.kind(reel, block), b.kind(reel, block))?;
-    check_eq(a.fetch(reel, block, &mut one), b.fetch(reel, block, &mut two))?;
+    check_eq(
+        a.fetch(reel, block, &mut one),
+        b.fetch(reel, block, &mut two),
+    )?;
     check_eq(one, two)
 }
 
@@ -242,14 +257,34 @@ fn alike<A: Deck, B: Deck>(a: &mut A, b: &mut B, reel: u32, block: u32) -> Resul
 fn either_way(rt: LibcRuntime) -> Result<(), Fail> {
     let mut strip = strip(rt.alloc())?;
     let mut indexed = indexed(rt.alloc())?;
-    let places = [(1, 1), (1, 2), (1, 3), (1, 4), (2, 1), (3, 1), (3, 2), (3, 3), (3, 4)];
+    let places = [
+        (1, 1),
+        (1, 2),
+        (1, 3),
+        (1, 4),
+        (2, 1),
+        (3, 1),
+        (3, 2),
+        (3, 3),
+        (3, 4),
+    ];
     for (reel, block) in places {
         alike(&mut strip, &mut indexed, reel, block)?;
     }
     for (reel, block) in places.iter().rev() {
         alike(&mut strip, &mut indexed, *reel, *block)?;
     }
-    for (reel, block) in [(3, 3), (1, 1), (3, 2), (1, 3), (2, 1), (3, 1), (1, 2), (3, 3), (3, 1)] {
+    for (reel, block) in [
+        (3, 3),
+        (1, 1),
+        (3, 2),
+        (1, 3),
+        (2, 1),
+        (3, 1),
+        (1, 2),
+        (3, 3),
+        (3, 1),
+    ] {
         alike(&mut strip, &mut indexed, reel, block)?;
     }
     Ok(())
@@ -292,5 +327,8 @@ fn bytes_back(rt: LibcRuntime) -> Result<(), Fail> {
     let bytes = spelt(rt.alloc(), &[0, 4294967294], b"")?;
     check(opened(Strip::open(bytes))?.into_bytes().as_slice() == b"\0\0\0\0\xff\xff\xff\xfe")?;
     let bytes = spelt(rt.alloc(), &[1, 1, 16, 1], b"a!")?;
-    check(opened(Indexed::open(bytes))?.into_bytes().as_slice() == b"\0\0\0\x01\0\0\0\x01\0\0\0\x10\0\0\0\x01a!")
+    check(
+        opened(Indexed::open(bytes))?.into_bytes().as_slice()
+            == b"\0\0\0\x01\0\0\0\x01\0\0\0\x10\0\0\0\x01a!",
+    )
 }

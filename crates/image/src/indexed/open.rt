@@ -3,9 +3,9 @@ ghost use mathlib.Core.Path.{_≡_};
 ghost use Rattle.std.specs.Of.Vec.{vec-items};
 ghost use Rattle.image.specs.Indexed.{Encodes, verdict};
 ghost use Rattle.image.specs.Opened.{indexed-set, told, held, Exactly};
+use super::super::refusal::Unopened;
 use super::Indexed;
 use super::check::check;
-use super::super::refusal::Unopened;
 
 impl Indexed {
     // An indexed image over these bytes, or the first check that fails, with the bytes.

@@ -3,10 +3,10 @@ ghost use mathlib.Core.Path.{_≡_};
 ghost use Rattle.std.specs.Of.Vec.{vec-items};
 ghost use Rattle.image.specs.Opened.{strip-set, told, held, Exactly};
 ghost use Rattle.image.specs.Strip.{encoded, verdict};
-use super::Strip;
 use super::super::cursor::Cursor;
 use super::super::refusal::Unopened;
 use super::super::scan::scan;
+use super::Strip;
 
 impl Strip {
     // A strip over these bytes, or the first check that fails, with the bytes.
