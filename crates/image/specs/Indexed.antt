@@ -98,10 +98,11 @@ abbrev pub cut : List ℕ → List Block → TapeSet
 cut [] bs = []
 cut (n ∷ ns) bs = take n bs ∷ cut ns (drop n bs)
 
--- What an indexed image is judged to be: all counts are read before the first entry.
+-- The entries of reels with such block counts, as a set.
 abbrev pub reel-entries : List ℕ → ℕ → List ℕ → Verdict TapeSet
 reel-entries xs n ns = and-then (row (entry xs (header n (sum ns))) 8 (first-entry n) (sum ns)) (λ bs. Ok (cut ns bs))
 
+-- What an indexed image is judged to be. All counts are read before the first entry.
 abbrev pub verdict : List ℕ → Verdict TapeSet
 verdict xs = and-then (reel-count xs) (λ n. and-then (row (block-count xs) 4 4 n) (reel-entries xs n))
 
