@@ -1,21 +1,16 @@
 -- That a strip opens exactly where it is an encoding.
 use mathlib.Core.Path.{_≡_, refl, sym, ap, subst, _∙_}
 use mathlib.Core.Bool.{true}
-use mathlib.Core.List.{List, []}
-use Prim.Native.Nat.{ℕ, _≤_, _<_}
+use mathlib.Core.List.{List}
+use Prim.Native.Nat.{ℕ}
 use native.Mathlib.Omega.{arith}
-use lib.ListN.{length, take, getD}
 use Rattle.std.specs.Results.{isOk}
-use Rattle.std.specs.declared.result.Result.{Result}
 use Rattle.std.specs.declared.result.Result.the-variants.{Ok, Err}
 use Rattle.deck.specs.Tape.{TapeSet, Sound}
-use Rattle.image.specs.Chart.{Charts}
 use Rattle.image.specs.Cursor.{Reads, Stands}
 use Rattle.image.specs.Opened.{Exactly}
-use Rattle.image.specs.Scan.{Scanned}
 use Rattle.image.specs.Stored.{Verdict, set-of}
-use Rattle.image.specs.Strip.{encoded, verdict, meant, place}
-use Rattle.image.specs.declared.cursor.Cursor.{Cursor}
+use Rattle.image.specs.Strip.{encoded, verdict, meant}
 use Rattle.image.proofs.Strips.{judged-sound, judged-encoded}
 
 -- A verdict that is a set is that of its own set.

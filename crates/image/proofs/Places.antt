@@ -11,9 +11,8 @@ use Rattle.std.specs.Joined.{joined}
 use Rattle.std.proofs.shelf.Lists.{drop-at, drop-drop}
 use Rattle.std.proofs.shelf.Tests.{le-ltb, cond-false}
 use Rattle.std.proofs.shelf.Ways.{tells}
-use Rattle.std.specs.declared.option.Option.{Option}
 use Rattle.std.specs.declared.option.Option.the-variants.{Some, None}
-use Rattle.deck.specs.Tape.{Block, written, mark, bad, Reel, TapeSet, Sound, SoundBlock, SoundBlocks, SoundReels, look}
+use Rattle.deck.specs.Tape.{Block, written, mark, bad, Reel, TapeSet, SoundBlock, SoundBlocks, SoundReels, look}
 use Rattle.deck.specs.Answers.{kind-of}
 use Rattle.deck.specs.declared.Kind.the-variants as kinds
 use Rattle.deck.specs.Words.{word, value}
@@ -22,7 +21,7 @@ use Rattle.image.specs.Stored.{stored, stored-as}
 use Rattle.image.specs.Strip.{block-bytes, reel-bytes, encoded, size, meant, place}
 use Rattle.image.specs.Cursor.{stored-at, Reads, Stands}
 use Rattle.image.specs.declared.cursor.Cursor.{Cursor}
-use Rattle.image.specs.Found.{seen, Inside, shown-kind, found-behind, found-at}
+use Rattle.image.specs.Found.{seen, Inside, shown-kind, found-if, found-at}
 use Rattle.image.specs.declared.found.Found.{Found}
 use Rattle.image.specs.declared.found.Found.the-variants as founds
 use Rattle.image.specs.declared.stored.Stored.{Stored}
@@ -38,9 +37,6 @@ joined-at f (x ∷ xs) (suc i) d h =
     let further : drop (suc i + 1) (x ∷ xs) ≡ drop (i + 1) xs = ap (λ k. drop k (x ∷ xs)) (add-one (suc i)) ∙ ap (λ k. drop k xs) (sym (add-one i)) in
     ap (λ t. f x ++ t) (joined-at f xs i d (omega arith) ∙ ap (λ t. joined f (take i xs) ++ (f (getD xs i d) ++ joined f t)) (sym further))
       ∙ sym (append-assoc (f x) (joined f (take i xs)) (f (getD xs i d) ++ joined f (drop (suc i + 1) (x ∷ xs))))
-
-pub joined-from : {X A : Type 0} (f : X → List A) (xs : List X) (i : ℕ) (d : X) → i < length xs → drop (length (joined f (take i xs))) (joined f xs) ≡ f (getD xs i d) ++ joined f (drop (i + 1) xs)
-joined-from f xs i d h = ap (drop (length (joined f (take i xs)))) (joined-at f xs i d h) ∙ drop-append-seam (joined f (take i xs)) (f (getD xs i d) ++ joined f (drop (i + 1) xs))
 
 pub joined-length : {X A : Type 0} (f : X → List A) (xs : List X) (i : ℕ) (d : X) → i < length xs → length (joined f (take (i + 1) xs)) ≡ length (joined f (take i xs)) + length (f (getD xs i d))
 joined-length f [] i d h = absurd (omega arith)
@@ -99,7 +95,7 @@ size-four mark = lit≤ tt
 size-four bad = lit≤ tt
 
 -- A kind word at a place within the strip.
-stored-there : (xs : List ℕ) (at : ℕ) (b : Block) → SoundBlock b → at + 4 ≤ length xs → value (drop at xs) ≡ word-of (stored-as b) → stored-at xs at ≡ Some (stored-as b)
+pub stored-there : (xs : List ℕ) (at : ℕ) (b : Block) → SoundBlock b → at + 4 ≤ length xs → value (drop at xs) ≡ word-of (stored-as b) → stored-at xs at ≡ Some (stored-as b)
 stored-there xs at b s l v = cond-false (ltb (length xs) (at + 4)) None (stored (value (drop at xs))) (le-ltb (length xs) (at + 4) l) ∙ ap stored v ∙ stored-word b s
 
 -- What is known of a place of a strip at which a block stands.
@@ -179,7 +175,7 @@ stands-behind xs c reads s h =
     }
 
 -- What is found at a block's place is the block.
-found-as : (xs : List ℕ) (at : ℕ) (b : Block) → Block-at xs at b → (seen xs (found-behind at (Some (stored-as b))) ≡ Some b) × Inside xs (found-behind at (Some (stored-as b)))
+found-as : (xs : List ℕ) (at : ℕ) (b : Block) → Block-at xs at b → (seen xs (found-if (at + 4) (Some (stored-as b))) ≡ Some b) × Inside xs (found-if (at + 4) (Some (stored-as b)))
 found-as xs at (written bytes) h =
     let there : drop (at + 4) xs ≡ drop 4 (block-bytes (written bytes) ++ h .bytes .0) = sym (drop-drop 4 at xs) ∙ ap (drop 4) (h .bytes .1) in
     (ap (λ t. Some (written (take (length bytes) t))) there ∙ ap Some (block-of (written bytes) (h .bytes .0)), omega (arith, h .fits))
@@ -187,7 +183,7 @@ found-as xs at mark h = (refl, tt)
 found-as xs at bad h = (refl, tt)
 
 pub found-block : (xs : List ℕ) (at : ℕ) (b : Block) → Block-at xs at b → (seen xs (found-at xs at) ≡ Some b) × Inside xs (found-at xs at)
-found-block xs at b h = subst (λ o. (seen xs (found-behind at o) ≡ Some b) × Inside xs (found-behind at o)) (sym (front-kind xs at b h)) (found-as xs at b h)
+found-block xs at b h = subst (λ o. (seen xs (found-if (at + 4) o) ≡ Some b) × Inside xs (found-if (at + 4) o)) (sym (front-kind xs at b h)) (found-as xs at b h)
 
 pub kind-seen : (xs : List ℕ) (f : Found) → Inside xs f → shown-kind f ≡ kind-of (seen xs f)
 kind-seen xs (founds.Record at n) h =

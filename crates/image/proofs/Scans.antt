@@ -1,20 +1,19 @@
 -- What a scan of a strip keeps from word to word.
 use mathlib.Core.Path.{_≡_, refl, sym, ap, subst, _∙_}
-use mathlib.Core.Logic.{inl, inr, ⊎-elim}
-use mathlib.Core.List.{List, [], _∷_, _++_, append-assoc, append-nil}
+use mathlib.Core.Logic.{⊎-elim}
+use mathlib.Core.List.{List, [], _∷_, _++_}
 use Prim.Native.Nat.{ℕ, zero, suc, _+_, _≤_, _<_}
 use native.Mathlib.Omega.{arith}
 use lib.Dec.{lit≤}
 use lib.ListN.{length, take, drop, getD, set, length-append, length-take, length-drop, length-set}
 use Rattle.std.specs.Joined.{joined}
-use Rattle.std.proofs.shelf.Lists.{places, drop-drop, take-append-le, take-all, getD-set-same, getD-set-other, getD-append-left, getD-at}
+use Rattle.std.proofs.shelf.Lists.{drop-drop, take-append-le, take-all, getD-set-same, getD-set-other, getD-append-left, getD-at}
 use Rattle.std.proofs.shelf.Tests.{cases-eq}
-use Rattle.std.specs.declared.result.Result.{Result}
 use Rattle.std.specs.declared.result.Result.the-variants.{Ok, Err}
-use Rattle.deck.specs.Tape.{Block, Reel, TapeSet}
-use Rattle.deck.specs.Words.{word, value}
+use Rattle.deck.specs.Tape.{Reel, TapeSet}
+use Rattle.deck.specs.Words.{word}
 use Rattle.image.specs.Stored.{Verdict, set-of, block}
-use Rattle.image.specs.Strip.{block-bytes, reel-bytes, encoded, size, next, follow, judge, verdict, meant}
+use Rattle.image.specs.Strip.{block-bytes, encoded, size, next, follow, judge, verdict, meant}
 use Rattle.image.specs.Chart.{no-reels, with-reel, Charts}
 use Rattle.image.specs.Scan.{Scanned}
 use Rattle.image.specs.declared.chart.Chart.{Chart}
@@ -23,7 +22,7 @@ use Rattle.image.specs.declared.stored.Stored.the-variants.{Record, Mark, Bad}
 use Rattle.image.specs.declared.next.Next.{Next}
 use Rattle.image.specs.declared.next.Next.the-variants.{Finished, ReelEnds, Holds}
 use Rattle.image.proofs.Words.{Bytes}
-use Rattle.image.proofs.Strips.{finished, ends, held, Held, Closed, encoded-more, blocks-more, judged-spells}
+use Rattle.image.proofs.Strips.{ends, held, Closed, encoded-more, blocks-more, judged-spells}
 
 -- Some reels and blocks of the next have been read, and what is left decides.
 pub record Going (xs : List ℕ) (c : Chart) (blocks at : ℕ) : Type 0 where

@@ -5,14 +5,13 @@ use mathlib.Core.List.{List, [], _∷_, _++_, append-assoc, append-nil}
 use Prim.Native.Nat.{ℕ, zero, suc, _+_, _≤_, _<_}
 use native.Mathlib.Omega.{arith}
 use lib.Dec.{eqb, ltb, leb, lit≤}
-use lib.ListN.{length, take, drop, getD, length-append, length-take, length-drop}
+use lib.ListN.{length, take, drop, length-append, length-take, length-drop}
 use Rattle.std.specs.Joined.{joined}
-use Rattle.std.proofs.shelf.Lists.{places, joined-more, take-append-drop, drop-drop, nil-from-length, take-at, drop-at}
+use Rattle.std.proofs.shelf.Lists.{joined-more, take-append-drop, drop-drop, nil-from-length, take-at, drop-at}
 use Rattle.std.proofs.shelf.Tests.{ltb-false, leb-false, eqb-true, lt-leb, lt-ltb, ne-eqb, cond-false, cond-true, and-from}
 use Rattle.std.proofs.shelf.Ways.{tells}
 use Rattle.std.specs.declared.option.Option.{Option}
 use Rattle.std.specs.declared.option.Option.the-variants.{Some, None}
-use Rattle.std.specs.declared.result.Result.{Result}
 use Rattle.std.specs.declared.result.Result.the-variants.{Ok, Err}
 use Rattle.deck.specs.Tape.{Block, written, mark, bad, Reel, TapeSet, Sound, SoundBlock, SoundBlocks, SoundReels}
 use Rattle.deck.specs.Words.{word, value}
@@ -40,7 +39,7 @@ other : {X : Type 0} (b : Bool) (w v : Verdict X) (x : X) → (w ≡ Ok x → �
 other true w v x n h = absurd (n h)
 other false w v x n h = (refl, h)
 
-chosen : {X : Type 0} (b : Bool) (e : ℕ × ℕ) (y x : X) → cond {A = Verdict X} b (Ok y) (Err e) ≡ Ok x → (b ≡ true) × (y ≡ x)
+pub chosen : {X : Type 0} (b : Bool) (e : ℕ × ℕ) (y x : X) → cond {A = Verdict X} b (Ok y) (Err e) ≡ Ok x → (b ≡ true) × (y ≡ x)
 chosen true e y x h = (refl, cc)
 chosen false e y x h = let z : _≡_ {A = ℕ} 0 1 = cc in absurd (omega arith)
 

@@ -5,6 +5,7 @@ use lib.ListN.{length, take, drop}
 use Rattle.std.specs.declared.option.Option.{Option}
 use Rattle.std.specs.declared.option.Option.the-variants.{Some, None}
 use Rattle.deck.specs.Tape.{Block, written, mark, bad}
+use Rattle.deck.specs.Words.{value}
 use Rattle.deck.specs.declared.Kind.{Kind}
 use Rattle.deck.specs.declared.Kind.the-variants as kinds
 use Rattle.image.specs.Cursor.{stored-at}
@@ -34,12 +35,20 @@ shown-kind Mark = kinds.Mark
 shown-kind Bad = kinds.Bad
 shown-kind Absent = kinds.Absent
 
--- The block of a strip whose kind word lies at a place: a record's bytes follow the word.
-abbrev pub found-behind : ℕ → Option Stored → Found
-found-behind at None = Absent
-found-behind at (Some (stores.Record n)) = Record (at + 4) n
-found-behind at (Some stores.Mark) = Mark
-found-behind at (Some stores.Bad) = Bad
+-- A block by how it is stored and where its bytes begin, if there is one.
+abbrev pub found-of : ℕ → Stored → Found
+found-of at (stores.Record n) = Record at n
+found-of at stores.Mark = Mark
+found-of at stores.Bad = Bad
 
+abbrev pub found-if : ℕ → Option Stored → Found
+found-if at None = Absent
+found-if at (Some s) = found-of at s
+
+-- The block of a strip whose kind word lies at a place: a record's bytes follow the word.
 abbrev pub found-at : List ℕ → ℕ → Found
-found-at xs at = found-behind at (stored-at xs at)
+found-at xs at = found-if (at + 4) (stored-at xs at)
+
+-- The block of an indexed image whose entry lies at a place: an offset and a kind word.
+abbrev pub listed-at : List ℕ → ℕ → Found
+listed-at xs at = found-if (value (drop at xs)) (stored-at xs (at + 4))

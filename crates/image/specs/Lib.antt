@@ -4,4 +4,5 @@ pub mod Chart
 pub mod Scan
 pub mod Cursor
 pub mod Found
+pub mod Indexed
 pub mod Opened

@@ -1,10 +1,12 @@
 // Where a block lies in an image, and what a deck answers of it.
 ghost use mathlib.Core.Path.{_≡_};
+ghost use Prim.Native.Nat.{_+_, _≤_};
 ghost use lib.ListN.{length};
 ghost use Rattle.deck.specs.Answers.{fetched, filled};
-ghost use Rattle.image.specs.Found.{Inside, seen, found-at, shown-kind};
+ghost use Rattle.image.specs.Found.{Inside, seen, found-of, found-at, listed-at, shown-kind};
 use super::cursor::block_at;
 use super::stored::Stored;
+use super::word::known_word;
 use deck::Kind;
 use deck::Short;
 
@@ -30,14 +32,35 @@ impl Found {
     }
 }
 
+// A stored block whose bytes begin at a place.
+fn found_of(at: usize, block: Stored) -> Found
+    ensures { λ r. ⌜ r ≡ found-of at block ⌝ }
+{
+    match block {
+        Stored::Record(length) => Found::Record(at, length),
+        Stored::Mark => Found::Mark,
+        Stored::Bad => Found::Bad,
+    }
+}
+
 // The block whose kind word lies at a place of a strip.
 pub fn found_at(bytes: &[u8], at: usize) -> Found
     ensures { λ r. ⌜ r ≡ found-at (now (bytes .entry)) at ⌝ }
 {
     match block_at(bytes, at) {
-        Some(Stored::Record(length)) => Found::Record(at + 4, length),
-        Some(Stored::Mark) => Found::Mark,
-        Some(Stored::Bad) => Found::Bad,
+        Some(block) => found_of(at + 4, block),
+        None => Found::Absent,
+    }
+}
+
+// The block whose entry lies at a place of an indexed image.
+pub fn listed_at(bytes: &[u8], at: usize) -> Found
+    requires { ⌜ at + 8 ≤ length (now bytes) ⌝ }
+    ensures { λ r. ⌜ r ≡ listed-at (now (bytes .entry)) at ⌝ }
+{
+    let offset = known_word(bytes, at) as usize;
+    match block_at(bytes, at + 4) {
+        Some(block) => found_of(offset, block),
         None => Found::Absent,
     }
 }

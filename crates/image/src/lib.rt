@@ -2,6 +2,7 @@
 mod chart;
 mod cursor;
 mod found;
+mod indexed;
 mod next;
 mod refusal;
 mod scan;
@@ -9,6 +10,8 @@ mod stored;
 mod strip;
 mod word;
 
+pub use indexed::Indexed;
+pub use indexed::IndexedDeck;
 pub use refusal::Cause;
 pub use refusal::Refusal;
 pub use refusal::Unopened;

@@ -3,10 +3,10 @@ ghost use mathlib.Core.Path.{_≡_};
 ghost use Prim.Native.Nat.{_≤_};
 ghost use lib.ListN.{length, drop};
 ghost use Rattle.image.specs.Stored.{numbered, Short};
-ghost use Rattle.std.specs.declared.result.Result.the-variants.{Err};
 ghost use Rattle.image.specs.Strip.{next, check-closed};
 use super::refusal::Cause;
 use super::refusal::Refusal;
+use super::refusal::refused;
 use super::stored::Stored;
 use super::stored::stored_by;
 use super::word::word_at;
@@ -22,12 +22,6 @@ pub enum Next {
     Finished,
     ReelEnds,
     Holds(Stored),
-}
-
-fn refused(cause: Cause, offset: usize) -> Result<Next, Refusal>
-    ensures { λ r. ⌜ r ≡ Err record { cause = cause; offset = offset } ⌝ }
-{
-    Err(Refusal { cause, offset })
 }
 
 // Whether a record's bytes and its closing word fit, and whether that word is equal.

@@ -1,6 +1,7 @@
 // Why bytes are not an image.
 ghost use mathlib.Core.Path.{_≡_};
 ghost use Rattle.image.specs.Stored.{number};
+ghost use Rattle.std.specs.declared.result.Result.the-variants.{Err};
 
 #[derive(Clone, Copy, PartialEq, Eq, Debug)]
 pub enum Cause {
@@ -29,6 +30,13 @@ impl Cause {
 pub struct Refusal {
     pub cause: Cause,
     pub offset: usize,
+}
+
+// The word at an offset, refused.
+pub fn refused<T>(cause: Cause, offset: usize) -> Result<T, Refusal>
+    ensures { λ r. ⌜ r ≡ Err record { cause = cause; offset = offset } ⌝ }
+{
+    Err(Refusal { cause, offset })
 }
 
 // Bytes that were refused, handed back with the refusal.

@@ -1,6 +1,6 @@
 // Words of four bytes, most significant first.
 ghost use mathlib.Core.Path.{_≡_};
-ghost use Prim.Native.Nat.{_+_};
+ghost use Prim.Native.Nat.{_+_, _≤_};
 ghost use lib.Dec.{ltb};
 ghost use lib.ListN.{length, drop};
 ghost use mathlib.Core.Bool.{cond};
@@ -17,5 +17,16 @@ pub fn word_at(bytes: &[u8], at: usize) -> Option<u32>
     match &bytes[at..] {
         [a, b, c, d, ..] => Some(u32::from_be_bytes([*a, *b, *c, *d])),
         _ => None,
+    }
+}
+
+// The word at a place, where four bytes are left.
+pub fn known_word(bytes: &[u8], at: usize) -> u32
+    requires { ⌜ at + 4 ≤ length (now bytes) ⌝ }
+    ensures { λ r. ⌜ r ≡ value (drop at (now (bytes .entry))) ⌝ }
+{
+    match word_at(bytes, at) {
+        Some(word) => word,
+        None => unreachable(),
     }
 }

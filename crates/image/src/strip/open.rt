@@ -1,19 +1,19 @@
 // Opening a strip.
 ghost use mathlib.Core.Path.{_≡_};
 ghost use Rattle.std.specs.Of.Vec.{vec-items};
-ghost use Rattle.image.specs.Opened.{told, held, Exactly};
+ghost use Rattle.image.specs.Opened.{strip-set, told, held, Exactly};
 ghost use Rattle.image.specs.Strip.{encoded, verdict};
-use super::Strip;
 use super::super::cursor::Cursor;
 use super::super::refusal::Unopened;
 use super::super::scan::scan;
+use super::Strip;
 
 impl Strip {
     // A strip over these bytes, or the first check that fails, with the bytes.
     pub fn open(bytes: Vec<u8>) -> Result<Strip, Unopened>
-        ensures says { λ r. ⌜ told r ≡ verdict (vec-items bytes) ⌝ }
-        ensures keeps { λ r. ⌜ held r ≡ bytes ⌝ }
-        ensures exactly { λ r. ⌜ Exactly (λ set. encoded set ≡ vec-items bytes) (told r) ⌝ }
+        ensures says { λ r. ⌜ told r strip-set ≡ verdict (vec-items bytes) ⌝ }
+        ensures keeps { λ r. ⌜ held r (λ s. s .bytes) ≡ bytes ⌝ }
+        ensures exactly { λ r. ⌜ Exactly (λ set. encoded set ≡ vec-items bytes) (told r strip-set) ⌝ }
     {
         match scan(bytes.as_slice()) {
             Ok(chart) => {

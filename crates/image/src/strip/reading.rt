@@ -3,16 +3,17 @@ ghost use mathlib.Core.Path.{_≡_};
 ghost use Prim.Native.Nat.{_<_};
 ghost use lib.ListN.{length};
 ghost use Rattle.std.specs.Of.Vec.{vec-items};
+ghost use Rattle.deck.specs.Answers.{kind-of};
 ghost use Rattle.deck.specs.Tape.{look};
 ghost use Rattle.image.specs.Cursor.{Stands};
-ghost use Rattle.image.specs.Found.{Inside, seen};
+ghost use Rattle.image.specs.Found.{Inside, seen, shown-kind};
 ghost use Rattle.image.specs.Opened.{strip-set};
-use super::Strip;
 use super::super::cursor::Cursor;
 use super::super::cursor::wind;
 use super::super::found::Found;
 use super::super::found::deliver;
 use super::super::found::found_at;
+use super::Strip;
 use deck::Deck;
 use deck::Kind;
 use deck::Short;
@@ -37,6 +38,7 @@ impl Strip {
     fn find(&mut self, reel: u32, block: u32) -> Found
         ensures stays { λ _. ⌜ now (self .exit) .bytes ≡ now (self .entry) .bytes ⌝ }
         ensures finds { λ r. ⌜ seen (vec-items (now (self .entry) .bytes)) r ≡ look (strip-set (now (self .entry))) reel block ⌝ }
+        ensures shows { λ r. ⌜ shown-kind r ≡ kind-of (look (strip-set (now (self .entry))) reel block) ⌝ }
         ensures inside { λ r. ⌜ Inside (vec-items (now (self .entry) .bytes)) r ⌝ }
     {
         if reel == 0 || block == 0 {

@@ -1,11 +1,10 @@
-use mathlib.Core.Path.{_≡_, ap, sym, subst, _∙_}
+use mathlib.Core.Path.{ap, sym, subst, _∙_}
 use Prim.Native.Nat.{_+_}
 use native.Mathlib.Omega.{arith}
 use Rattle.std.proofs.shelf.Results.{err-from-errBy}
-use Rattle.std.specs.declared.result.Result.the-variants.{Ok, Err}
+use Rattle.std.specs.declared.result.Result.the-variants.{Ok}
 use Rattle.image.specs.Chart.{with-reel}
 use Rattle.image.specs.Strip.{size}
-use Rattle.image.specs.declared.chart.Chart.{Chart}
 use Rattle.image.proofs.Scans.{Going, going-start, going-refused, going-finished, going-ends, going-holds, size-some}
 use Rattle.image.proofs.scan.scan.Needs as need
 

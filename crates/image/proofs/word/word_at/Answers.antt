@@ -1,4 +1,3 @@
-use borrow.Author.Needs.{needs}
 use native.Mathlib.Omega.{arith}
 use Rattle.std.proofs.shelf.Lists.{places}
 use Rattle.std.proofs.shelf.Ways.{tells}

@@ -1,0 +1,3 @@
+// Images at their edges.
+#[cfg(test)]
+mod tests;
