@@ -1,17 +1,17 @@
 -- The block at a place of a set, by its place counted from 0.
 use mathlib.Core.Path.{_≡_, refl, sym, ap, subst, _∙_}
-use mathlib.Core.Bool.{false, cond}
-use mathlib.Core.List.{List, [], _∷_}
+use mathlib.Core.Bool.{Bool, true, false, cond}
+use mathlib.Core.List.{List, [], _∷_, _++_}
 use Prim.Native.Nat.{ℕ, zero, suc, _-_, _≤_, _<_}
 use native.Mathlib.Omega.{arith}
 use lib.Dec.{ltb}
-use lib.ListN.{length, getD}
+use lib.ListN.{length, drop, getD}
 use Rattle.std.specs.declared.option.Option.{Option}
 use Rattle.std.specs.declared.option.Option.the-variants.{Some, None}
 use Rattle.std.specs.declared.result.Result.{Result}
 use Rattle.std.specs.declared.result.Result.the-variants.{Ok, Err}
 use Rattle.std.proofs.shelf.Tests.{le-ltb, cond-false}
-use Rattle.deck.specs.Answers.{fetched}
+use Rattle.deck.specs.Answers.{fetched, filled}
 use Rattle.deck.specs.Tape.{Block, written, mark, bad, Reel, TapeSet, SoundBlock, SoundBlocks, SoundReels, nth, from-one, look-on, look}
 use Rattle.deck.specs.declared.Kind.{Kind}
 use Rattle.deck.specs.declared.Kind.the-variants.{Record}
@@ -96,3 +96,36 @@ never-short (Some (written xs)) room e h f =
     let z : _≡_ {A = ℕ} 0 1 = cc in omega arith
 never-short (Some mark) room e h f = let z : _≡_ {A = ℕ} 0 1 = cc in omega arith
 never-short (Some bad) room e h f = let z : _≡_ {A = ℕ} 0 1 = cc in omega arith
+
+-- There is no block behind the last that a reel can have.
+reel-far : (reel : Reel) (block : ℕ) → length reel ≤ 65535 → 65535 < block → from-one reel block ≡ None
+reel-far reel block l h = from-one-is reel block (omega arith) ∙ nth-past reel (block - 1) (omega arith)
+
+on-far : (set : TapeSet) (i block : ℕ) → SoundReels set → 65535 < block → look-on (nth set i) block ≡ None
+on-far [] i block s h = refl
+on-far (reel ∷ set) zero block s h = reel-far reel block (s .0 .0) h
+on-far (reel ∷ set) (suc i) block s h = on-far set i block (s .1) h
+
+pub look-far : (set : TapeSet) (reel block : ℕ) → SoundReels set → 65535 < block → look set reel block ≡ None
+look-far set zero block s h = refl
+look-far set (suc reel) block s h = on-far set reel block s h
+
+-- A fetch that answers a record has read one, and it stands at the front of the buffer.
+pub record Read (o : Option Block) (buffer : List ℕ) (n : ℕ) : Type 0 where
+  pub bytes : List ℕ
+  pub is : o ≡ Some (written bytes)
+  pub long : length bytes ≡ n
+  pub front : filled o buffer ≡ bytes ++ drop n buffer
+
+same-length : (m n : ℕ) → _≡_ {A = Result Kind Short} (Ok (Record m)) (Ok (Record n)) → m ≡ n
+same-length m n e = cc
+
+read-record : (xs buffer : List ℕ) (n : ℕ) (b : Bool) → cond {A = Result Kind Short} b (Err record {}) (Ok (Record (length xs))) ≡ Ok (Record n) → (length xs ≡ n) × (cond b buffer (xs ++ drop (length xs) buffer) ≡ xs ++ drop n buffer)
+read-record xs buffer n true e = let z : _≡_ {A = ℕ} 0 1 = cc in absurd (omega arith)
+read-record xs buffer n false e = let long = same-length (length xs) n e in (long, ap (λ k. xs ++ drop k buffer) long)
+
+pub fetched-record : (o : Option Block) (buffer : List ℕ) (n : ℕ) → fetched o (length buffer) ≡ Ok (Record n) → Read o buffer n
+fetched-record None buffer n e = let z : _≡_ {A = ℕ} 0 1 = cc in absurd (omega arith)
+fetched-record (Some (written xs)) buffer n e = let r = read-record xs buffer n (ltb (length buffer) (length xs)) e in record { bytes = xs; is = refl; long = r .0; front = r .1 }
+fetched-record (Some mark) buffer n e = let z : _≡_ {A = ℕ} 0 1 = cc in absurd (omega arith)
+fetched-record (Some bad) buffer n e = let z : _≡_ {A = ℕ} 0 1 = cc in absurd (omega arith)

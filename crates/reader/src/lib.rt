@@ -1,3 +1,4 @@
 // The reader: what an archive server asks of a tape set.
-mod refusal;
+mod body;
 mod places;
+mod refusal;
