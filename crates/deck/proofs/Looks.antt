@@ -28,7 +28,7 @@ nth-past (x ∷ xs) zero h = absurd (omega arith)
 nth-past (x ∷ xs) (suc i) h = nth-past xs i (omega arith)
 
 -- Places counted from 1.
-from-one-is : {X : Type 0} (xs : List X) (n : ℕ) → 0 < n → from-one xs n ≡ nth xs (n - 1)
+pub from-one-is : {X : Type 0} (xs : List X) (n : ℕ) → 0 < n → from-one xs n ≡ nth xs (n - 1)
 from-one-is xs zero h = absurd (omega arith)
 from-one-is xs (suc n) h = ap (nth xs) (omega arith)
 

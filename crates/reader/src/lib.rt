@@ -1,4 +1,6 @@
 // The reader: what an archive server asks of a tape set.
 mod body;
+mod call;
 mod places;
+mod reading;
 mod refusal;

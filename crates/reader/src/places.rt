@@ -45,19 +45,19 @@ fn index_in(codes: &[u8], code: u8) -> Option<usize>
     None
 }
 
-// The same among the bands present.
-fn index_of(bands: &Bands, code: u8) -> Option<usize>
-    ensures finds { λ r. ⌜ r ≡ index-of code (take (now (bands .entry) .count) (now (bands .entry) .codes)) 0 ⌝ }
-    ensures within { λ r. ⌜ Cases r (Unit {0}) (λ i. i < 5) ⌝ }
+// The codes of the bands present.
+pub(crate) fn codes(bands: &Bands) -> &[u8]
+    ensures is { λ r. ⌜ now r ≡ take (now (bands .entry) .count) (now (bands .entry) .codes) ⌝ }
+    ensures few { λ r. ⌜ length (now r) ≤ 5 ⌝ }
 {
-    index_in(&bands.codes[0..bands.count.min(5)], code)
+    &bands.codes[0..bands.count.min(5)]
 }
 
 // The image file of a band, if the band is present.
 pub(crate) fn band_file(accepted: &Accepted, code: u8) -> Option<BandFile>
     ensures { λ r. ⌜ r ≡ band-file (now (accepted .entry)) code ⌝ }
 {
-    let place = index_of(&accepted.summary.bands, code)?;
+    let place = index_in(codes(&accepted.summary.bands), code)?;
     let layout = accepted.summary.layout;
     Some(match layout.form {
         Form::Interleaved => BandFile {
