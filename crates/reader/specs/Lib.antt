@@ -1,3 +1,4 @@
 pub mod Refusals
 pub mod Finding
 pub mod Bodies
+pub mod Answers
