@@ -1,7 +1,7 @@
 -- What a reader remembers after a list of calls is what the definition of replies says.
 use mathlib.Core.Path.{_≡_, refl, sym, ap, subst, _∙_}
 use mathlib.Core.Bool.{Bool, true, false, cond, _||_}
-use mathlib.Core.List.{List, [], _∷_, _++_, append-assoc, append-nil}
+use mathlib.Core.List.{List, [], _∷_, _++_, map, append-assoc, append-nil}
 use Prim.Native.Nat.{ℕ, _+_, min}
 use native.Mathlib.Omega.{arith}
 use lib.Dec.{ltb}
@@ -9,15 +9,19 @@ use lib.ListN.{length}
 use Rattle.std.specs.declared.option.Option.{Option}
 use Rattle.std.specs.declared.option.Option.the-variants.{None}
 use Rattle.std.specs.declared.result.Result.the-variants.{Ok, Err}
+use Rattle.std.proofs.shelf.Lists.{map-push}
 use Rattle.std.proofs.shelf.Ways.{tells}
+use Rattle.std.specs.Of.Vec.{vec-items}
 use Rattle.deck.specs.Tape.{TapeSet}
 use Rattle.survey.specs.Surveys.{surveyed}
 use Rattle.survey.specs.declared.accepted.Accepted.{Accepted}
-use Rattle.reader.specs.Answers.{Memory, remembering, answer, fresh}
+use Rattle.reader.specs.Answers.{Memory, remembering, answer}
 use Rattle.reader.specs.Bodies.{Delivery, line-answer, accepted-by, raised}
 use Rattle.reader.specs.declared.call.Call.{Call}
 use Rattle.reader.specs.declared.call.Call.the-variants.{Survey, Band, Ident, Line, Sheet, Tally}
-use Rattle.witness.specs.Replies.{Question, Reply, is-survey, has-survey, accepted-after, one-if, delivers, lines-behind, remembered, reply, replies-behind}
+use Rattle.witness.specs.Replies.{Question, is-survey, has-survey, accepted-after, one-if, delivers, lines-behind, remembered, reply-of, reply, replies-behind, replies, asked, answered}
+use Rattle.witness.specs.declared.calls.Answered.{Answered}
+use Rattle.witness.specs.declared.calls.Asked.{Asked}
 
 pub pair : {X Y : Type 0} {a b : X} {c d : Y} → a ≡ b → c ≡ d → _≡_ {A = X × Y} (a, c) (b, d)
 pair p q = cc
@@ -81,3 +85,24 @@ module _ (set : TapeSet) (past : List Question) where
       same-memory (sym (accepted-more set past (Line band n, buffer) refl)) (tally-raised d (lines-behind set [] past) ∙ ap (λ k. min k 9223372036854775807) lines)
   memory-more (Sheet band kind index) buffer = quiet (Sheet band kind index, buffer) refl refl
   memory-more Tally buffer = quiet (Tally, buffer) refl refl
+
+-- The replies to one call more.
+replies-more : (set : TapeSet) (before qs : List Question) (q : Question) → replies-behind set before (qs ++ q ∷ []) ≡ replies-behind set before qs ++ reply set (before ++ qs) q ∷ []
+replies-more set before [] q = ap (λ b. reply set b q ∷ []) (sym (append-nil before))
+replies-more set before (p ∷ qs) q =
+    ap (λ rs. reply set before p ∷ rs) (replies-more set (before ++ p ∷ []) qs q ∙ ap (λ b. replies-behind set (before ++ p ∷ []) qs ++ reply set b q ∷ []) (append-assoc before (p ∷ []) qs))
+
+-- A turn of the loop: the reader was asked one call more, and the answer was put at the end.
+module _ (set was now : TapeSet) (m n : Memory) (calls : List Asked) (a : Asked) (answers later : List Answered) (r : Answered) where
+  pub turn : was ≡ set → m ≡ remembered set (map asked calls) → map answered answers ≡ replies set (map asked calls) → now ≡ was → answered r ≡ reply-of (answer was m (a .call) (vec-items (a .buffer))) → n ≡ answer was m (a .call) (vec-items (a .buffer)) .memory → later ≡ answers ++ r ∷ [] → (now ≡ set) × ((n ≡ remembered set (map asked (calls ++ a ∷ []))) × (map answered later ≡ replies set (map asked (calls ++ a ∷ []))))
+  turn e em er stays says remembers pushed =
+      let past = map asked calls in
+      let more : map asked (calls ++ a ∷ []) ≡ past ++ asked a ∷ [] = map-push asked calls a in
+      let at : answer was m (a .call) (vec-items (a .buffer)) ≡ answer set (remembered set past) (a .call) (vec-items (a .buffer)) = ap (λ s. answer s m (a .call) (vec-items (a .buffer))) e ∙ ap (λ k. answer set k (a .call) (vec-items (a .buffer))) em in
+      ( stays ∙ e
+      , ( remembers ∙ ap (λ o. o .memory) at ∙ memory-more set past (a .call) (vec-items (a .buffer)) ∙ ap (remembered set) (sym more)
+        , ap (map answered) pushed ∙ map-push answered answers r
+            ∙ ap (λ rs. rs ++ answered r ∷ []) er
+            ∙ ap (λ x. replies set past ++ x ∷ []) (says ∙ ap reply-of at)
+            ∙ sym (replies-more set [] past (asked a))
+            ∙ ap (replies set) (sym more) ) )
