@@ -283,39 +283,20 @@ def case(what, made, *listing):
 def accepted():
     case("interleaved, one reel, one readable line",
          bil(), "SET M 1 CP 4 1", "BAND 4 0", "BAND 5 1", "BAND 6 0", "BAND 7 0")
-    case("band after band, one band, nothing readable",
-         bsq(), "SET M 2 CP 1 1", "BAND 6 0")
-    case("RBV, nothing readable", rbv(), "SET R 3 CP 1 1", "BAND C 0")
     case("band after band, two bands, one readable",
          bsq2(good=[("8", 1)]), "SET M 3 CP 2 1", "BAND 4 0", "BAND 8 1")
-    for letter in "ABD":
-        case("RBV of camera or part " + letter,
-             tape("RBV", 3, letter, lines=3, good=[(letter, 2)]),
-             "SET R 3 CP 1 3", "BAND %s 1" % letter)
-    for band, mission in (("4", 1), ("5", 3), ("7", 2), ("8", 3)):
-        case("band after band, band %s alone, mission %d" % (band, mission),
-             tape("BSQ", mission, band, lines=2), "SET M %d CP 1 2" % mission, "BAND %s 0" % band)
     case("interleaved, mission 3, five bands, two lines, bad blocks scattered",
          tape("BIL", 3, "45678", lines=2, good=[("4", 2), ("6", 1), ("8", 1), ("8", 2)]),
          "SET M 3 CP 5 2", "BAND 4 1", "BAND 5 0", "BAND 6 1", "BAND 7 0", "BAND 8 2")
     case("interleaved, mission 3, band 8 alone, the others zero",
          tape("BIL", 3, "8", good="all"), "SET M 3 CP 1 1", "BAND 8 1")
-    case("interleaved, mission 3, band 8 missing",
-         tape("BIL", 3, "4567"), "SET M 3 CP 4 1", "BAND 4 0", "BAND 5 0", "BAND 6 0", "BAND 7 0")
-    case("interleaved, mission 1, band 4 alone",
-         tape("BIL", 1, "4"), "SET M 1 CP 1 1", "BAND 4 0")
-    case("interleaved, mission 2, bands 5 and 7",
-         tape("BIL", 2, "57", good=[("7", 1)]), "SET M 2 CP 2 1", "BAND 5 0", "BAND 7 1")
     case("interleaved, a present band's record all zero is readable",
          tape("BIL", 2, "4567", good=[("6", 1)], image=0),
          "SET M 2 CP 4 1", "BAND 4 0", "BAND 5 0", "BAND 6 1", "BAND 7 0")
     case("free bytes all ones, byte 3586 among them",
          bsq(free=255, good="all", image=255), "SET M 2 CP 1 1", "BAND 6 1")
-    case("free bytes zero", bil(free=0), "SET M 1 CP 4 1", "BAND 4 0", "BAND 5 1", "BAND 6 0", "BAND 7 0")
-    case("RBV, free bytes all ones", rbv(free=255), "SET R 3 CP 1 1", "BAND C 0")
     case("five trailers, interleaved", bil(good=[], trailers=5),
          "SET M 1 CP 4 1", "BAND 4 0", "BAND 5 0", "BAND 6 0", "BAND 7 0")
-    case("four trailers, RBV", rbv(trailers=4), "SET R 3 CP 1 1", "BAND C 0")
     case("band after band, each band with its own number of trailers",
          bsq2(trailers=[3, 1]), "SET M 3 CP 2 1", "BAND 4 0", "BAND 8 0")
     case("band after band, all five bands of mission 3",
@@ -338,33 +319,17 @@ def accepted():
     case("interleaved with missing bands, a break in each line; a missing band behind a break",
          tape("BIL", 1, "46", lines=2, breaks=[(1, 1), (1, 5)], good=[("6", 2)]),
          "SET M 1 CP 2 2", "BAND 4 0", "BAND 6 1")
-    case("interleaved, mission 3, a break between lines; bad blocks on both sides",
-         tape("BIL", 3, "45678", lines=2, breaks=[(1, 5)], good=[("4", 1), ("5", 2), ("8", 2)]),
-         "SET M 3 CP 5 2", "BAND 4 1", "BAND 5 1", "BAND 6 0", "BAND 7 0", "BAND 8 1")
     case("interleaved, three reels: inside the image file and behind it; two trailers",
          tape("BIL", 2, "4567", breaks=[(1, 3), (1, 4)], trailers=2),
          "SET M 2 CP 4 1", "BAND 4 0", "BAND 5 0", "BAND 6 0", "BAND 7 0")
     case("band after band, a break of each kind: inside, behind the image, behind the trailer",
          tape("BSQ", 3, "458", lines=2, breaks=[(1, 1), (2, 2)], behind=[2]),
          "SET M 3 CP 3 2", "BAND 4 0", "BAND 5 0", "BAND 8 0")
-    case("band after band, a break behind the first image file, another behind its trailers",
-         tape("BSQ", 1, "67", breaks=[(1, 1)], behind=[1], good=[("7", 1)]),
-         "SET M 1 CP 2 1", "BAND 6 0", "BAND 7 1")
     case("nine reels, RBV, a bad block on each",
          tape("RBV", 3, "B", lines=9, breaks=[(1, k) for k in range(1, 9)]),
          "SET R 3 CP 1 9", "BAND B 0")
-    case("nine reels, interleaved, an image block on eight, the trailer on the ninth",
-         tape("BIL", 1, "4567", lines=2, breaks=[(1, k) for k in range(1, 9)], good=[("4", 2)]),
-         "SET M 1 CP 4 2", "BAND 4 1", "BAND 5 0", "BAND 6 0", "BAND 7 0")
-    case("nine reels, band after band",
-         tape("BSQ", 3, "47", lines=4, breaks=[(g, k) for g in (1, 2) for k in (1, 2, 3)] + [(1, 4)],
-              behind=[1]),
-         "SET M 3 CP 2 4", "BAND 4 0", "BAND 7 0")
     case("record number 300 behind 299 bad blocks",
          tape("BSQ", 2, "4", lines=300, good=[("4", 300)]), "SET M 2 CP 1 300", "BAND 4 1")
-    case("RBV, record number 257 in block 3 behind a break",
-         tape("RBV", 3, "A", lines=257, breaks=[(1, 256)], good=[("A", 257)]),
-         "SET R 3 CP 1 257", "BAND A 1")
 
 
 # ---------------------------------------------------- images that are refused
@@ -372,44 +337,24 @@ def accepted():
 def refused():
     ends = END_OF_REEL
     case("empty input", b"", "IMAGE 1 0")
-    case("one byte, that could begin a mark", b"\0", "IMAGE 1 0")
     case("three bytes of a word that would be illegal", b"\x80\0\0", "IMAGE 1 0")
     case("a mark and no end of reel", MARK_WORD, "IMAGE 1 4")
     case("a bad block and three bytes", BAD_WORD + b"\xff\xff\xff", "IMAGE 1 4")
     case("a reel and two bytes more", ends + b"\0\0", "IMAGE 1 4")
-    case("a reel, then a mark without an end of reel", ends + MARK_WORD, "IMAGE 1 8")
-    case("a record's word and nothing else", word(7), "IMAGE 1 0")
     case("a record without its closing word", word(5) + b"abcde", "IMAGE 1 0")
     case("a record, its closing word cut", word(5) + b"abcde" + word(5)[:3], "IMAGE 1 0")
-    case("a record of one byte, whole, but no end of reel", word(1) + b"a" + word(1), "IMAGE 1 9")
-    case("a record cut behind two marks", MARK_WORD * 2 + word(5388) + bytes(5387), "IMAGE 1 8")
     case("a record cut on the second reel", MARK_WORD + ends + word(3) + b"ab", "IMAGE 1 8")
     case("illegal word 5,389", word(5389) + bytes(5389) + word(5389) + ends, "IMAGE 2 0")
     case("illegal word 5,389 with nothing behind it", word(5389), "IMAGE 2 0")
     case("illegal word 4,294,967,293", word(0xFFFFFFFD) + ends, "IMAGE 2 0")
     case("illegal word 65,536", MARK_WORD + word(65536) + ends, "IMAGE 2 4")
-    case("illegal word 2,147,483,648 on the second reel", ends + word(0x80000000) + ends, "IMAGE 2 4")
-    case("length word least byte first", word(0x68010000) + bytes(360) + word(0x68010000) + ends,
-         "IMAGE 2 0")
     case("longest record, closing word one less", word(5388) + bytes(5388) + word(5387) + ends,
          "IMAGE 2 5392")
-    case("closing word zero", word(2) + b"ab" + MARK_WORD + ends, "IMAGE 2 6")
     case("closing word an end of reel", word(2) + b"ab" + ends, "IMAGE 2 6")
-    case("closing word different behind another record",
-         word(1) + b"a" + word(1) + word(2) + b"ab" + word(3) + ends, "IMAGE 2 15")
-    case("records of one byte and of 5,388 are legal in the image; no directory",
-         word(1) + b"a" + word(1) + word(5388) + bytes(5388) + word(5388) + ends, "FAULT 23 2 1 1")
-    case("one empty reel", ends, "FAULT 11 1 1 1")
-    case("nine empty reels", ends * 9, "FAULT 11 1 1 1")
     case("ten empty reels", ends * 10, "IMAGE 3 36")
-    case("nine reels and one byte", ends * 9 + b"\0", "IMAGE 3 36")
-    case("nine reels and an illegal word", ends * 9 + word(5389), "IMAGE 3 36")
     nine = tape("BSQ", 1, "4", lines=9, breaks=[(1, k) for k in range(1, 9)]).strip()
     case("nine good reels and one byte", nine + b"\xff", "IMAGE 3 %d" % len(nine))
-    case("eight good reels, a mark in front of the ninth's end is cut to three bytes",
-         nine[:-8] + b"\0\0\0", "IMAGE 1 %d" % (len(nine) - 8))
     whole = bsq().strip()
-    case("a good set without its end of reel", whole[:-4], "IMAGE 1 %d" % (len(whole) - 4))
     case("a good set, its end of reel cut", whole[:-1], "IMAGE 1 %d" % (len(whole) - 4))
     case("a good set and one byte", whole + b"\0", "IMAGE 1 %d" % len(whole))
     # directory 4 + 360 + 4, mark 4: the header's word is at 372, its closing word at 372 + 4 + 3,596
@@ -421,9 +366,7 @@ def refused():
     # the limit of the program
     case("65,536 bytes of bad blocks, no end of reel", BAD_WORD * 16384, "IMAGE 1 65536")
     case("65,537 bytes", BAD_WORD * 16384 + b"\0", "LONG")
-    case("65,537 bytes that begin with an illegal word", b"\x80" + bytes(65536), "LONG")
     # 16,383 marks and the end of the reel: the first should be a directory
-    case("65,536 bytes, all marks", MARK_WORD * 16383 + ends, "FAULT 21 2 1 1")
     # directory 368, mark 4; header and annotation 2 * 3,604, mark 4; then the
     # lines; mark 4; five trailers 5 * 3,604; two marks 8; end of reel 4: 25,620
     # without the lines, so 39,916 are left: three records (10,812) and 7,276
@@ -438,43 +381,33 @@ def refused():
 # ------------------------------------------------- 11: absent, 12: bad block
 
 def deck_faults():
-    for block in (2, 3, 4, 5, 6, 7, 10, 11, 12, 13):
+    for block in (2, 4, 6, 7, 11, 13):
         case("interleaved, the reel stops before block %d" % block,
              bil().cut(1, block), "FAULT 11 1 1 %d" % block)
-    for block in (6, 7, 8, 10):
+    for block in (3, 8, 10):
         case("band after band, the reel stops before block %d" % block,
              bsq().cut(1, block), "FAULT 11 1 1 %d" % block)
-    case("band after band, the reel stops behind the second header",
-         bsq2().cut(1, 11), "FAULT 11 1 1 11")
     for block in (5, 9):
         case("RBV, the reel stops before block %d" % block,
              rbv().cut(1, block), "FAULT 11 1 1 %d" % block)
-    case("a second trailer absent", bsq(trailers=2).cut(1, 9), "FAULT 11 1 1 9")
     case("second mark of reel 1 absent", bil_in().cut(1, 9), "FAULT 11 1 1 9")
     case("second reel empty", bil_in().cut(2, 1), "FAULT 11 1 2 1")
-    case("second reel a directory only", rbv_in().cut(2, 2), "FAULT 11 1 2 2")
     case("nothing behind a break inside an image file", bsq_in().cut(2, 3), "FAULT 11 1 2 3")
     case("nothing behind a break behind a trailer file", bsq_behind().cut(2, 3), "FAULT 11 1 2 3")
     case("interleaved, third closing mark absent", bil_in().cut(2, 9), "FAULT 11 1 2 9")
     case("band after band, third closing mark absent", bsq_behind().cut(2, 11), "FAULT 11 1 2 11")
     case("RBV, third closing mark absent", rbv_end().cut(2, 6), "FAULT 11 1 2 6")
 
-    for block, what in ((1, "directory"), (2, "mark behind the directory"), (3, "header"),
-                        (4, "annotation"), (5, "mark behind the attributes"), (11, "trailer"),
-                        (12, "mark behind the trailer"), (13, "second closing mark")):
+    for block, what in ((1, "directory"), (2, "mark behind the directory"), (4, "annotation"),
+                        (5, "mark behind the attributes"), (12, "mark behind the trailer")):
         case("interleaved, bad block for the " + what,
              bil().swap(1, block, BAD), "FAULT 12 1 1 %d" % block)
     case("RBV, bad block for the trailer", rbv().swap(1, 8, BAD), "FAULT 12 1 1 8")
     case("RBV, bad block behind the trailer file", rbv().swap(1, 10, BAD), "FAULT 12 1 1 10")
     case("band after band, bad block for the second header", bsq2().swap(1, 10, BAD), "FAULT 12 1 1 10")
-    case("band after band, bad block for the last trailer of three",
-         bsq(trailers=3).swap(1, 10, BAD), "FAULT 12 1 1 10")
     case("bad block for the second mark of reel 1", bsq_in().swap(1, 8, BAD), "FAULT 12 1 1 8")
-    case("bad block for the second directory", rbv_in().swap(2, 1, BAD), "FAULT 12 1 2 1")
     case("bad block for the header behind a break", bsq_behind().swap(2, 3, BAD), "FAULT 12 1 2 3")
     case("interleaved, bad block for the third closing mark", bil_end().swap(2, 6, BAD), "FAULT 12 1 2 6")
-    case("band after band, bad block for the third closing mark",
-         bsq_behind().swap(2, 11, BAD), "FAULT 12 1 2 11")
     # a bad block for the image file's closing mark is one line more, and the
     # trailer then stands inside the image file
     case("a bad block for the mark behind the image file is a line",
@@ -488,27 +421,17 @@ def record_faults():
     case("mark for the header", rbv().insert(1, 3, MARK), "FAULT 21 2 1 3")
     case("mark for the annotation", bsq().remove(1, 4), "FAULT 21 2 1 4")
     case("interleaved, image file empty", bil().remove(1, 6, 4), "FAULT 21 2 1 6")
-    case("band after band, image file empty", bsq().remove(1, 6), "FAULT 21 2 1 6")
     case("RBV, image file empty", rbv().remove(1, 6), "FAULT 21 2 1 6")
-    case("second band's image file empty", bsq2().remove(1, 13), "FAULT 21 2 1 13")
     case("one trailer where the header says two", bil(trailers=2).remove(1, 12), "FAULT 21 2 1 12")
-    case("RBV, one trailer where the header says two", rbv().put(1, 3, 145, 2), "FAULT 21 2 1 9")
-    case("mark for the second directory", bsq_in().swap(2, 1, MARK), "FAULT 21 2 2 1")
     case("mark behind a break inside an image file", bil_in().insert(2, 3, MARK), "FAULT 21 2 2 3")
     case("mark behind a break behind a trailer file", bsq_behind().insert(2, 3, MARK), "FAULT 21 2 2 3")
-    case("RBV, mark for the trailer behind a break", rbv_end().remove(2, 3), "FAULT 21 2 2 3")
 
     one = record(1, TRAILER, 3596, 0)
     case("no mark behind the directory", bil().remove(1, 2), "FAULT 22 2 1 2")
-    case("no mark behind the second directory", bsq_in().remove(2, 2), "FAULT 22 2 2 2")
-    case("two annotations in a corrected set",
-         bsq().insert(1, 5, record(3, ANNOTATION, 3596, 0)), "FAULT 22 2 1 5")
     case("no mark behind the attributes; the image begins",
          rbv(good="all").remove(1, 5), "FAULT 22 2 1 5")
     case("one trailer more than the header says",
          bil().insert(1, 12, record(2, TRAILER, 3596, 0)), "FAULT 22 2 1 12")
-    case("RBV, one trailer more than the header says",
-         rbv().insert(1, 9, record(2, TRAILER, 5388, 0)), "FAULT 22 2 1 9")
     case("band after band, no mark between trailer and next header",
          bsq2().remove(1, 9), "FAULT 22 2 1 9")
     case("interleaved, a header behind the trailer file",
@@ -518,35 +441,22 @@ def record_faults():
     case("interleaved, a record for the third closing mark", bil_in().swap(2, 9, one), "FAULT 22 2 2 9")
     case("band after band, a header for the third closing mark",
          bsq_behind().swap(2, 11, record(1, HEADER, 3596, 0)), "FAULT 22 2 2 11")
-    case("RBV, a record for the third closing mark", rbv_in().swap(2, 8, one), "FAULT 22 2 2 8")
 
     # 23 length
     case("directory of 359 bytes", bil().size(1, 1, 359), "FAULT 23 2 1 1")
-    case("directory of 361 bytes", rbv().size(1, 1, 361), "FAULT 23 2 1 1")
-    case("second directory of 3,596 bytes", bsq_in().size(2, 1, 3596), "FAULT 23 2 2 1")
     case("header of 3,595 bytes", bsq().size(1, 3, 3595), "FAULT 23 2 1 3")
-    case("header of 5,388 bytes in an MSS set", bil().size(1, 3, 5388), "FAULT 23 2 1 3")
     case("header of 3,596 bytes in an RBV set", rbv().size(1, 3, 3596), "FAULT 23 2 1 3")
-    case("annotation of 360 bytes", bil().size(1, 4, 360), "FAULT 23 2 1 4")
     case("image record of 3,597 bytes", bil().size(1, 7, 3597), "FAULT 23 2 1 7")
     case("RBV image record of 5,387 bytes", rbv(good="all").size(1, 6, 5387), "FAULT 23 2 1 6")
     case("image record of five bytes", bsq(good="all").size(1, 6, 5), "FAULT 23 2 1 6")
-    case("trailer of 3,595 bytes", bsq().size(1, 8, 3595), "FAULT 23 2 1 8")
-    case("second trailer of 5,387 bytes", rbv(trailers=2).size(1, 9, 5387), "FAULT 23 2 1 9")
     case("image record behind a break one byte long", bsq_in().size(2, 3, 1), "FAULT 23 2 2 3")
-    case("second header too long", bsq2().size(1, 10, 3600), "FAULT 23 2 1 10")
 
     # 24 byte 5
     case("byte 5 of the directory", bsq().put(1, 1, 5, 1), "FAULT 24 2 1 1")
-    case("byte 5 of the header", bil().put(1, 3, 5, 128), "FAULT 24 2 1 3")
     case("byte 5 of the annotation", rbv().put(1, 4, 5, 255), "FAULT 24 2 1 4")
     case("byte 5 of an image record", bil().put(1, 7, 5, 1), "FAULT 24 2 1 7")
-    case("RBV, byte 5 of an image record", rbv(good="all").put(1, 6, 5, 16), "FAULT 24 2 1 6")
     case("byte 5 of a trailer", bsq().put(1, 8, 5, 2), "FAULT 24 2 1 8")
     case("byte 5 of a trailer behind a break", bil_end().put(2, 3, 5, 64), "FAULT 24 2 2 3")
-    case("byte 5 of the second directory", rbv_in().put(2, 1, 5, 1), "FAULT 24 2 2 1")
-    case("byte 5 of a missing band's record, not 36",
-         tape("BIL", 1, "567").put(1, 6, 5, 1), "FAULT 24 2 1 6")
 
     # 25 type
     case("directory with a header's type", bil().put(1, 1, 6, HEADER), "FAULT 25 2 1 1")
@@ -555,36 +465,24 @@ def record_faults():
     case("interleaved, image record with a trailer's type inside the file",
          bil().put(1, 7, 6, TRAILER), "FAULT 25 2 1 7")
     case("the image file begins with a trailer", bsq(good="all").put(1, 6, 6, TRAILER), "FAULT 25 2 1 6")
-    case("RBV, image record of type 0", rbv(good="all").put(1, 6, 6, 0), "FAULT 25 2 1 6")
     case("an image record behind the image file's mark", bil().put(1, 11, 6, IMAGE), "FAULT 25 2 1 11")
-    case("second trailer with an image's type", rbv(trailers=2).put(1, 9, 6, IMAGE), "FAULT 25 2 1 9")
     case("behind the first band's trailer file an image record", bsq2().put(1, 10, 6, IMAGE),
          "FAULT 25 2 1 10")
-    case("type 022 as decimal 22", bsq().put(1, 3, 6, 22), "FAULT 25 2 1 3")
     case("behind a break a header", bil_in().swap(2, 3, record(3, HEADER, 3596, 0)), "FAULT 25 2 2 3")
-    case("behind a break an annotation", rbv_in().put(2, 3, 6, ANNOTATION), "FAULT 25 2 2 3")
     case("behind a break behind an image file the next header, the trailer left out",
          tape("BSQ", 2, "47", breaks=[(1, 1)]).remove(2, 3, 2), "FAULT 25 2 2 3")
-    case("behind a break behind a trailer file a trailer", bsq_behind().put(2, 3, 6, TRAILER),
-         "FAULT 25 2 2 3")
     case("behind a break behind a trailer file an image record", bsq_behind().put(2, 3, 6, IMAGE),
          "FAULT 25 2 2 3")
-    case("second directory with a wrong type", bsq_end().put(2, 1, 6, IMAGE), "FAULT 25 2 2 1")
 
     # 26 number
     case("directory number 0", rbv().put(1, 1, 1, word(0)), "FAULT 26 2 1 1")
-    case("second directory number 2", bil_in().put(2, 1, 1, word(2)), "FAULT 26 2 2 1")
-    case("header number 3", bsq().put(1, 3, 1, word(3)), "FAULT 26 2 1 3")
     case("annotation number 1", bil().put(1, 4, 1, word(1)), "FAULT 26 2 1 4")
     case("a bad block uses up its number: band 5's record is 2, not 1",
          bil().put(1, 7, 1, word(1)), "FAULT 26 2 1 7")
     case("RBV, image number 1 with the highest byte set", rbv(good="all").put(1, 6, 1, 1), "FAULT 26 2 1 6")
-    case("image number with byte 2 set", bsq(good="all").put(1, 6, 2, 1), "FAULT 26 2 1 6")
     case("number 300 written as 44",
          tape("BSQ", 2, "4", lines=300, good=[("4", 300)]).put(1, 305, 1, word(44)), "FAULT 26 2 1 305")
     case("trailer goes on counting from the image", bsq().put(1, 8, 1, word(2)), "FAULT 26 2 1 8")
-    case("second trailer number 1", rbv(trailers=2).put(1, 9, 1, word(1)), "FAULT 26 2 1 9")
-    case("second header number 2", bsq2().put(1, 10, 1, word(2)), "FAULT 26 2 1 10")
     case("second band's image goes on counting from the first's",
          bsq2(good=[("8", 1)]).put(1, 13, 1, word(2)), "FAULT 26 2 1 13")
     case("numbers begin again behind a break, interleaved", bil_in().put(2, 3, 1, word(1)), "FAULT 26 2 2 3")
@@ -598,7 +496,6 @@ def record_faults():
     case("a bad block in block 3 behind a break uses up its number",
          tape("BSQ", 1, "5", lines=3, breaks=[(1, 1)], good=[("5", 3)]).put(2, 4, 1, word(2)),
          "FAULT 26 2 2 4")
-    case("header behind a break goes on counting", bsq_behind().put(2, 3, 1, word(2)), "FAULT 26 2 2 3")
 
 
 # --------------------------------------------- 31 and 32: directories
@@ -614,17 +511,9 @@ def directory_faults():
         case("%s, directory byte %d" % (forms[i % 3].__name__, n),
              forms[i % 3]().put(1, 1, n, value), "FAULT 31 3 1 1")
     for what, made in (
-            ("mission 4", bsq().put(1, 1, 8, "4")),
-            ("mission as a number, not a digit", bil().put(1, 1, 8, 1)),
             ("RBV of mission 1", rbv().put(1, 1, 8, "1")),
-            ("RBV of mission 2", rbv().put(1, 1, 8, "2")),
             ("sensor R, all else MSS of mission 3", bsq2().put(1, 1, 9, "R")),
-            ("sensor M, all else RBV", rbv().put(1, 1, 9, "M")),
-            ("reel digit 0", rbv().put(1, 1, 19, "0")),
-            ("reel as a number, not a digit", bsq().put(1, 1, 19, 1)),
-            ("reel count 0", bil().put(1, 1, 20, "0")),
             ("reel count 1 in a set of two", bil_in().put(1, 1, 20, "1").put(2, 1, 20, "1")),
-            ("byte 31 is 254", bil().put(1, 1, 31, 254)),
             ("byte 31 is 255 for RBV", rbv().put(1, 1, 31, 255)),
             ("records of 5,388 bytes for MSS", bil().put(1, 1, 32, (5388).to_bytes(2, "big"))),
             ("records of 3,596 bytes for RBV", rbv().put(1, 1, 32, (3596).to_bytes(2, "big"))),
@@ -635,11 +524,6 @@ def directory_faults():
     case("band after band, the last byte of the second directory",
          bsq_behind().put(2, 1, 360, 0), "FAULT 32 3 2 1")
     case("RBV, the identification of the second directory", rbv_in().put(2, 1, 52, "9"), "FAULT 32 3 2 1")
-    case("second directory of another mission", bsq_in().put(2, 1, 8, "2"), "FAULT 32 3 2 1")
-    case("byte 18 of the second directory", bil_end().put(2, 1, 18, 255), "FAULT 32 3 2 1")
-    case("second directory with another reel count", bsq_end().put(2, 1, 20, "3"), "FAULT 32 3 2 1")
-    case("second directory with blanks gone", rbv_end().put(2, 1, 21, 0), "FAULT 32 3 2 1")
-    case("second directory with the other interleaving", bsq_in().put(2, 1, 31, 255), "FAULT 32 3 2 1")
     case("interleaved, second directory says reel 1", bil_in().put(2, 1, 19, "1"), "FAULT 31 3 2 1")
     case("band after band, second directory says reel 3", bsq_behind().put(2, 1, 19, "3"), "FAULT 31 3 2 1")
     case("RBV, second directory's reel a number", rbv_end().put(2, 1, 19, 2), "FAULT 31 3 2 1")
@@ -649,11 +533,6 @@ def directory_faults():
          rbv_in().put(2, 1, 19, "1").put(2, 1, 7, "M"), "FAULT 32 3 2 1")
     three = lambda: tape("BSQ", 1, "4", lines=3, breaks=[(1, 1), (1, 2)])
     case("third directory equals the second", three().put(3, 1, 19, "2"), "FAULT 31 3 3 1")
-    case("third directory differs", three().put(3, 1, 100, 0), "FAULT 32 3 3 1")
-    case("second and third reel exchanged: bad blocks tell nothing, the directory does",
-         three().put(2, 1, 19, "3").put(3, 1, 19, "2"), "FAULT 31 3 2 1")
-    ten = tape("RBV", 3, "B", lines=9, breaks=[(1, k) for k in range(1, 9)])
-    case("ninth directory says reel 8", ten.put(9, 1, 19, "8"), "FAULT 31 3 9 1")
 
 
 # ------------------------------------------------ 33 and 34: header values
@@ -662,43 +541,28 @@ def header_faults():
     for what, made in (
             ("interleaved, byte 101", bil().put(1, 3, 101, 1)),
             ("RBV, byte 102 is 2", rbv().put(1, 3, 102, 2)),
-            ("band after band, byte 102 is 0", bsq().put(1, 3, 102, 0)),
             ("band after band, byte 105", bsq().put(1, 3, 105, 1)),
             ("interleaved, byte 106", bil().put(1, 3, 106, 1)),
-            ("RBV, byte 106 is 30 in a corrected set", rbv().put(1, 3, 106, 30)),
             ("interleaved, byte 120 is 0", bil().put(1, 3, 120, 0)),
             ("band after band, byte 120 is 255", bsq().put(1, 3, 120, 255)),
-            ("RBV, byte 120 is 1", rbv().put(1, 3, 120, 1)),
             ("interleaved, mission 1, byte 121 is 5", bil().put(1, 3, 121, 5)),
             ("interleaved, mission 3, byte 121 is 4",
              tape("BIL", 3, "4567").put(1, 3, 121, 4)),
             ("interleaved, byte 121 counts the bands present",
              tape("BIL", 1, "456").put(1, 3, 121, 3)),
-            ("interleaved, byte 121 a digit", bil().put(1, 3, 121, "4")),
-            ("band after band, byte 121 is 4", bsq().put(1, 3, 121, 4)),
-            ("RBV, byte 121 is 1", rbv().put(1, 3, 121, 1)),
             ("interleaved, byte 144", bil().put(1, 3, 144, 1)),
-            ("band after band, byte 144", bsq().put(1, 3, 144, 255)),
-            ("RBV, byte 144", rbv().put(1, 3, 144, 1)),
             ("interleaved, no trailers", bil().put(1, 3, 145, 0)),
-            ("band after band, no trailers", bsq().put(1, 3, 145, 0)),
             ("RBV, no trailers", rbv().put(1, 3, 145, 0)),
-            ("interleaved, six trailers", bil().put(1, 3, 145, 6)),
             ("band after band, six trailers", bsq().put(1, 3, 145, 6)),
             ("RBV, six trailers", rbv().put(1, 3, 145, 6))):
         case("header: " + what, made, "FAULT 33 3 1 3")
-    case("second header: byte 105", bsq2().put(1, 10, 105, 1), "FAULT 33 3 1 10")
     case("second header: six trailers", bsq2().put(1, 10, 145, 6), "FAULT 33 3 1 10")
     case("header behind a break: byte 102", bsq_behind().put(2, 3, 102, 0), "FAULT 33 3 2 3")
     # uncorrected sets: the whole attributes file does not fit, its start does
     ca = lambda form: tape(form, 3, "B" if form == "RBV" else "4", correction="CA")
     case("uncorrected MSS, 30 ancillary records", ca("BSQ").cut(1, 4).put(1, 3, 106, 30), "FAULT 33 3 1 3")
     case("uncorrected RBV, 26 ancillary records", ca("RBV").cut(1, 4).put(1, 3, 106, 26), "FAULT 33 3 1 3")
-    case("uncorrected, one annotation", ca("BIL").cut(1, 4).put(1, 3, 102, 1), "FAULT 33 3 1 3")
-    case("uncorrected, corrected set's counts",
-         ca("BSQ").cut(1, 4).put(1, 3, 102, 1).put(1, 3, 106, 0), "FAULT 33 3 1 3")
     case("uncorrected MSS band after band, stops behind the header", ca("BSQ").cut(1, 4), "FAULT 11 1 1 4")
-    case("uncorrected interleaved, stops behind two ancillary records", ca("BIL").cut(1, 6), "FAULT 11 1 1 6")
     case("uncorrected RBV, stops behind two ancillary records", ca("RBV").cut(1, 6), "FAULT 11 1 1 6")
     case("uncorrected, annotation where an ancillary record must be",
          ca("BSQ").cut(1, 6).put(1, 4, 6, ANNOTATION), "FAULT 25 2 1 4")
@@ -708,37 +572,25 @@ def header_faults():
          ca("BIL").cut(1, 6).swap(1, 5, BAD), "FAULT 12 1 1 5")
     case("uncorrected, a mark behind 14 ancillary records",
          ca("BIL").cut(1, 19).insert(1, 18, MARK), "FAULT 21 2 1 18")
-    case("uncorrected RBV, ancillary record of 3,596 bytes",
-         ca("RBV").cut(1, 6).size(1, 5, 3596), "FAULT 23 2 1 5")
 
     for what, made in (
             ("interleaved, byte 136 is 4", bil().put(1, 3, 136, "4")),
-            ("interleaved, byte 136 is zero, not the digit", bil().put(1, 3, 136, 0)),
-            ("band after band, byte 136 is 0", bsq().put(1, 3, 136, "0")),
             ("band after band, byte 136 is 3", bsq().put(1, 3, 136, "3")),
-            ("band after band, mission 3, byte 136 is 9", bsq_end().put(1, 3, 136, "9")),
-            ("band after band, byte 136 a letter", bsq().put(1, 3, 136, "A")),
-            ("band after band, byte 136 a number", bsq().put(1, 3, 136, 6)),
             ("band 8 of mission 1", tape("BSQ", 1, "7").put(1, 3, 136, "8")),
             ("band 8 of mission 2", bsq().put(1, 3, 136, "8")),
             ("RBV, byte 136 is E", rbv().put(1, 3, 136, "E")),
             ("RBV, byte 136 is @", rbv().put(1, 3, 136, "@")),
-            ("RBV, byte 136 a small letter", rbv().put(1, 3, 136, "a")),
-            ("RBV, byte 136 a digit", rbv().put(1, 3, 136, "4")),
             ("byte 3586 is zero", bil().put(1, 3, 3586, 0)),
             ("byte 3586 with bit 1", bil().put(1, 3, 3586, 0b10011110)),
             ("byte 3586 with bit 2", bil().put(1, 3, 3586, 0b01011110)),
             ("byte 3586 with bit 3", tape("BIL", 3, "45678").put(1, 3, 3586, 0b00111111)),
-            ("byte 3586 with a high bit and no band", bil().put(1, 3, 3586, 0b00100000)),
             ("byte 3586 with band 8, mission 1", bil().put(1, 3, 3586, 0b00011111)),
             ("byte 3586 with band 8 alone, mission 2", tape("BIL", 2, "4").put(1, 3, 3586, 1))):
         case("band: " + what, made, "FAULT 34 3 1 3")
     case("second band equals the first", bsq2().put(1, 10, 136, "4"), "FAULT 34 3 1 10")
     case("second band below the first", tape("BSQ", 1, "57").put(1, 10, 136, "4"), "FAULT 34 3 1 10")
-    case("second band 8 of mission 2", tape("BSQ", 2, "47").put(1, 10, 136, "8"), "FAULT 34 3 1 10")
     case("third band between the first and the second",
          tape("BSQ", 3, "468").put(1, 17, 136, "5"), "FAULT 34 3 1 17")
-    case("band behind a break equals the one before", bsq_behind().put(2, 3, 136, "4"), "FAULT 34 3 2 3")
     case("behind a break a band follows the last one",
          bsq_behind().put(1, 3, 136, "7").put(2, 3, 136, "7"), "FAULT 34 3 2 3")
 
@@ -759,7 +611,6 @@ def line_faults():
     case("second band longer", tape("BSQ", 3, "48", lines=[1, 2]), "FAULT 35 3 1 16")
     # 1 to 9 the first band, 10 to 16 the second, 17 header, 18 annotation,
     # 19 mark, 20 and 21 image, 22 mark, 23 trailer
-    case("third band longer", tape("BSQ", 1, "457", lines=[1, 1, 2]), "FAULT 35 3 1 23")
     case("second band shorter, its trailer behind a break",
          tape("BSQ", 3, "48", lines=[2, 1], breaks=[(2, 1)]), "FAULT 35 3 2 3")
     # 8,192 lines and one more; line n stands at block 5 + n
@@ -787,7 +638,6 @@ def line_faults():
         case("missing band 6, %s body byte not zero" % what,
              tape("BIL", 2, "457").put(1, 8, n, 1), "FAULT 36 3 1 8")
     case("missing band 8, not zero", tape("BIL", 3, "4567").put(1, 10, 3595, 128), "FAULT 36 3 1 10")
-    case("missing band 8, bad", tape("BIL", 3, "4567").swap(1, 10, BAD), "FAULT 36 3 1 10")
     case("missing band 5 in the second line",
          tape("BIL", 1, "467", lines=2).put(1, 11, 8, 255), "FAULT 36 3 1 11")
     case("missing band in block 3 behind a break, bad",
@@ -822,8 +672,6 @@ def end_faults():
         return made
     case("interleaved, finished on the first of two reels", longer(bil()), "FAULT 37 3 1 13")
     case("RBV, finished on the first of two reels", longer(rbv()), "FAULT 37 3 1 10")
-    case("interleaved, finished before the last reel with three marks",
-         longer(bil().insert(1, 13, MARK)), "FAULT 37 3 1 13")
     case("band after band, finished on the first of two reels: the next header is missed",
          longer(bsq()), "FAULT 11 1 2 3")
     case("interleaved, finished on the second of three reels, the third empty",
@@ -835,8 +683,6 @@ def end_faults():
     case("interleaved, a third mark in a one-reel set", bil().insert(1, 14, MARK), "FAULT 38 3 1 14")
     case("band after band, a bad block behind a one-reel set", bsq().insert(1, 11, BAD), "FAULT 38 3 1 11")
     case("RBV, a record of one byte behind a one-reel set", rbv().insert(1, 11, short), "FAULT 38 3 1 11")
-    case("band after band, a header behind two marks",
-         bsq().insert(1, 11, record(1, HEADER, 3596, 0)), "FAULT 38 3 1 11")
     case("interleaved, a fourth mark on the last reel", bil_in().insert(2, 10, MARK), "FAULT 38 3 2 10")
     case("band after band, a record behind the third mark",
          bsq_behind().insert(2, 12, short), "FAULT 38 3 2 12")
@@ -846,7 +692,6 @@ def end_faults():
     case("a trailer behind a break behind an image file",
          bsq_end().insert(1, 9, record(1, TRAILER, 3596, 0)), "FAULT 38 3 1 9")
     case("three marks at a break behind a trailer file", bsq_behind().insert(1, 11, MARK), "FAULT 38 3 1 11")
-    case("a record behind a break behind a trailer file", bsq_behind().insert(1, 11, short), "FAULT 38 3 1 11")
     case("a bad block behind the second reel of three",
          tape("BSQ", 1, "4", lines=3, breaks=[(1, 1), (1, 2)]).insert(2, 6, BAD), "FAULT 38 3 2 6")
 
@@ -856,10 +701,7 @@ def end_faults():
 def first_of_two():
     # in one record: length, byte 5, type, number, and only then its values
     case("length before byte 5", bsq().size(1, 3, 3595).put(1, 3, 5, 1), "FAULT 23 2 1 3")
-    case("length before type and number",
-         rbv().size(1, 8, 5387).put(1, 8, 6, 0).put(1, 8, 1, word(9)), "FAULT 23 2 1 8")
     case("byte 5 before type", bil().put(1, 11, 5, 1).put(1, 11, 6, IMAGE), "FAULT 24 2 1 11")
-    case("byte 5 before number", rbv().put(1, 3, 5, 1).put(1, 3, 1, word(2)), "FAULT 24 2 1 3")
     case("type before number", bsq().put(1, 4, 6, HEADER).put(1, 4, 1, word(1)), "FAULT 25 2 1 4")
     case("type before number behind a break",
          bsq_in().put(2, 3, 6, HEADER).put(2, 3, 1, word(1)), "FAULT 25 2 2 3")
@@ -869,39 +711,28 @@ def first_of_two():
     case("header: number before values", bsq().put(1, 3, 1, word(0)).put(1, 3, 102, 9), "FAULT 26 2 1 3")
     case("missing band: number before 36",
          tape("BIL", 1, "567").put(1, 6, 1, word(9)).put(1, 6, 7, 1), "FAULT 26 2 1 6")
-    case("missing band: length before 36",
-         tape("BIL", 1, "567").put(1, 6, 7, 1).size(1, 6, 3595), "FAULT 23 2 1 6")
     case("first trailer: number before the count of lines",
          bil().remove(1, 9).put(1, 10, 1, word(2)), "FAULT 26 2 1 10")
     case("first trailer: type before the count of lines",
          tape("BSQ", 3, "48", lines=[1, 2]).put(1, 16, 6, HEADER), "FAULT 25 2 1 16")
     # header values in the order of their bytes
     case("header bytes 120 and 136", bil().put(1, 3, 120, 0).put(1, 3, 136, "4"), "FAULT 33 3 1 3")
-    case("header bytes 121 and 136", rbv().put(1, 3, 121, 4).put(1, 3, 136, "E"), "FAULT 33 3 1 3")
     case("header bytes 136 and 144", bsq().put(1, 3, 136, "9").put(1, 3, 144, 1), "FAULT 34 3 1 3")
     case("header bytes 136 and 145", rbv().put(1, 3, 136, "E").put(1, 3, 145, 0), "FAULT 34 3 1 3")
     case("header bytes 145 and 3586", bil().put(1, 3, 145, 6).put(1, 3, 3586, 0), "FAULT 33 3 1 3")
-    case("second header, bytes 102 and 136 not rising",
-         bsq2().put(1, 10, 102, 2).put(1, 10, 136, "4"), "FAULT 33 3 1 10")
     case("second header, bytes 136 not rising and 145",
          bsq2().put(1, 10, 136, "4").put(1, 10, 145, 0), "FAULT 34 3 1 10")
     # in the order of the tape
-    case("a later record's length behind a header's value",
-         bil().put(1, 3, 145, 0).size(1, 4, 100), "FAULT 33 3 1 3")
     case("a missing band not zero, then a count that is no multiple",
          tape("BIL", 1, "456").put(1, 9, 7, 1).insert(1, 10, BAD), "FAULT 36 3 1 9")
     case("an image's number, then the second reel's directory",
          rbv_in().put(2, 1, 12, 0).swap(1, 6, record(2, IMAGE, 5388, 1)), "FAULT 26 2 1 6")
     case("a block behind the first reel's end, then no second directory",
          bil_in().insert(1, 10, BAD).cut(2, 1), "FAULT 38 3 1 10")
-    case("unfinished on the last reel, and a third mark behind",
-         bil().remove(1, 11).insert(1, 13, MARK), "FAULT 37 3 1 11")
     case("unfinished, and a count that is no multiple: no trailer tells it",
          bil().remove(1, 9).remove(1, 10, 2), "FAULT 37 3 1 10")
     case("second directory without its mark and with a wrong digit",
          bsq_in().remove(2, 2).put(2, 1, 19, "1"), "FAULT 31 3 2 1")
-    case("third closing mark bad, and a mark behind",
-         rbv_end().swap(2, 6, BAD).insert(2, 7, MARK), "FAULT 12 1 2 6")
 
 
 # =============================================================== the command
