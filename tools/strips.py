@@ -4,8 +4,8 @@
 The first part writes valid tape sets as strips. The second part plants
 faults: each case is a small edit of a valid set, and beside it stands the
 listing that tapelist must print. Those listings were worked out by hand from
-the layout; nothing in this file surveys a tape. tools/survey.py, which shares
-no line with this file, cross-checks them.
+the layout; nothing in this file surveys a tape. tools/survey.py, which uses
+nothing of this file, cross-checks them.
 
     strips.py DIRECTORY     writes DIRECTORY/NNN.strip and DIRECTORY/expected.txt
     strips.py --list        prints every case: number, size, listing, what it is
@@ -366,7 +366,6 @@ def refused():
     # the limit of the program
     case("65,536 bytes of bad blocks, no end of reel", BAD_WORD * 16384, "IMAGE 1 65536")
     case("65,537 bytes", BAD_WORD * 16384 + b"\0", "LONG")
-    # 16,383 marks and the end of the reel: the first should be a directory
     # directory 368, mark 4; header and annotation 2 * 3,604, mark 4; then the
     # lines; mark 4; five trailers 5 * 3,604; two marks 8; end of reel 4: 25,620
     # without the lines, so 39,916 are left: three records (10,812) and 7,276
@@ -533,8 +532,8 @@ def directory_faults():
          bil_in().put(2, 1, 19, "1").put(2, 1, 29, 0), "FAULT 32 3 2 1")
     case("second directory, byte 19 wrong and byte 7 too",
          rbv_in().put(2, 1, 19, "1").put(2, 1, 7, "M"), "FAULT 32 3 2 1")
-    three = lambda: tape("BSQ", 1, "4", lines=3, breaks=[(1, 1), (1, 2)])
-    case("third directory equals the second", three().put(3, 1, 19, "2"), "FAULT 31 3 3 1")
+    case("third directory equals the second",
+         tape("BSQ", 1, "4", lines=3, breaks=[(1, 1), (1, 2)]).put(3, 1, 19, "2"), "FAULT 31 3 3 1")
 
 
 # ------------------------------------------------ 33 and 34: header values
@@ -613,8 +612,6 @@ def line_faults():
     # band after band: the count must be the first band's
     case("second band shorter", tape("BSQ", 3, "48", lines=[2, 1]), "FAULT 35 3 1 16")
     case("second band longer", tape("BSQ", 3, "48", lines=[1, 2]), "FAULT 35 3 1 16")
-    # 1 to 9 the first band, 10 to 16 the second, 17 header, 18 annotation,
-    # 19 mark, 20 and 21 image, 22 mark, 23 trailer
     case("second band shorter, its trailer behind a break",
          tape("BSQ", 3, "48", lines=[2, 1], breaks=[(2, 1)]), "FAULT 35 3 2 3")
     # 8,192 lines and one more; line n stands at block 5 + n

@@ -1,8 +1,8 @@
 #!/usr/bin/env python3
 """A second opinion on what the program tapelist must print.
 
-This is a plain surveyor of strips, written from the layout of the tapes and
-sharing nothing with the reader in this repository nor with tools/strips.py.
+This is a plain surveyor of strips, written from the layout of the tapes; it
+uses nothing of the reader in this repository, nor of tools/strips.py.
 It serves only to cross-check expectations that were stated by hand.
 
     survey.py STRIP...            prints the listing of each strip
