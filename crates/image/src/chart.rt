@@ -12,7 +12,7 @@ pub struct Chart {
 }
 
 impl Chart {
-    pub fn new() -> Self
+    pub(crate) fn new() -> Self
         ensures { λ r. ⌜ r ≡ no-reels ⌝ }
     {
         Chart {
@@ -23,7 +23,7 @@ impl Chart {
     }
 
     // One reel more, which has so many blocks and ends there.
-    pub fn add(&mut self, blocks: u32, end: usize)
+    pub(crate) fn add(&mut self, blocks: u32, end: usize)
         requires { ⌜ now self .reels < 9 ⌝ }
         ensures { λ _. ⌜ now (self .exit) ≡ with-reel (now (self .entry)) blocks end ⌝ }
     {

@@ -18,7 +18,7 @@ pub struct Cursor {
 }
 
 // The block whose kind word lies at a place, if a kind word does.
-pub fn block_at(bytes: &[u8], at: usize) -> Option<Stored>
+pub(crate) fn block_at(bytes: &[u8], at: usize) -> Option<Stored>
     ensures { λ r. ⌜ r ≡ stored-at (now (bytes .entry)) at ⌝ }
 {
     match word_at(bytes, at) {
@@ -90,7 +90,7 @@ fn wind_back(bytes: &[u8], from: Cursor, block: u32) -> Cursor
 }
 
 // To a block of the reel, or to its end, over the blocks between.
-pub fn wind(bytes: &[u8], from: Cursor, block: u32) -> Cursor
+pub(crate) fn wind(bytes: &[u8], from: Cursor, block: u32) -> Cursor
     requires strip { ⌜ Reads (now bytes) ⌝ }
     requires stands { ⌜ Stands (now bytes) from ⌝ }
     requires there { ⌜ block ≤ length (getD (meant (now bytes)) (from .reel) []) ⌝ }

@@ -20,7 +20,7 @@ pub enum Found {
 }
 
 impl Found {
-    pub fn kind(self) -> Kind
+    pub(crate) fn kind(self) -> Kind
         ensures { λ r. ⌜ r ≡ shown-kind self ⌝ }
     {
         match self {
@@ -44,7 +44,7 @@ fn found_of(at: usize, block: Stored) -> Found
 }
 
 // The block whose kind word lies at a place of a strip.
-pub fn found_at(bytes: &[u8], at: usize) -> Found
+pub(crate) fn found_at(bytes: &[u8], at: usize) -> Found
     ensures { λ r. ⌜ r ≡ found-at (now (bytes .entry)) at ⌝ }
 {
     match block_at(bytes, at) {
@@ -54,7 +54,7 @@ pub fn found_at(bytes: &[u8], at: usize) -> Found
 }
 
 // The block whose entry lies at a place of an indexed image.
-pub fn listed_at(bytes: &[u8], at: usize) -> Found
+pub(crate) fn listed_at(bytes: &[u8], at: usize) -> Found
     requires { ⌜ at + 8 ≤ length (now bytes) ⌝ }
     ensures { λ r. ⌜ r ≡ listed-at (now (bytes .entry)) at ⌝ }
 {
@@ -66,7 +66,7 @@ pub fn listed_at(bytes: &[u8], at: usize) -> Found
 }
 
 // A record that fits is put at the front of the buffer. The rest of the buffer is left.
-pub fn deliver(bytes: &[u8], found: Found, buffer: &mut [u8]) -> Result<Kind, Short>
+pub(crate) fn deliver(bytes: &[u8], found: Found, buffer: &mut [u8]) -> Result<Kind, Short>
     requires { ⌜ Inside (now bytes) found ⌝ }
     ensures answers { λ r. ⌜ r ≡ fetched (seen (now (bytes .entry)) found) (length (now (buffer .entry))) ⌝ }
     ensures writes { λ _. ⌜ now (buffer .exit) ≡ filled (seen (now (bytes .entry)) found) (now (buffer .entry)) ⌝ }

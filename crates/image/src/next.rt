@@ -42,7 +42,7 @@ fn closed(bytes: &[u8], at: usize, block: Stored) -> Result<Next, Refusal>
 }
 
 // What stands at a place of a strip, behind so many whole reels and so many blocks of the next, or the first check that fails there.
-pub fn next_word(bytes: &[u8], at: usize, reels: usize, blocks: u32) -> Result<Next, Refusal>
+pub(crate) fn next_word(bytes: &[u8], at: usize, reels: usize, blocks: u32) -> Result<Next, Refusal>
     ensures { λ r. ⌜ numbered r ≡ next at reels blocks (drop at (now (bytes .entry))) ⌝ }
 {
     if at >= bytes.len() && reels > 0 && blocks == 0 {

@@ -33,7 +33,7 @@ pub struct Refusal {
 }
 
 // The word at an offset, refused.
-pub fn refused<T>(cause: Cause, offset: usize) -> Result<T, Refusal>
+pub(crate) fn refused<T>(cause: Cause, offset: usize) -> Result<T, Refusal>
     ensures { λ r. ⌜ r ≡ Err record { cause = cause; offset = offset } ⌝ }
 {
     Err(Refusal { cause, offset })

@@ -13,7 +13,7 @@ use super::stored::Stored;
 
 impl Stored {
     // How many bytes of a strip the block takes.
-    pub fn size(self) -> usize
+    pub(crate) fn size(self) -> usize
         requires { ⌜ Short self ⌝ }
         ensures { λ r. ⌜ r ≡ size self ⌝ }
     {
@@ -26,7 +26,7 @@ impl Stored {
 }
 
 // The chart of the reels of a strip, or the first check that fails.
-pub fn scan(bytes: &[u8]) -> Result<Chart, Refusal>
+pub(crate) fn scan(bytes: &[u8]) -> Result<Chart, Refusal>
     ensures { λ r. ⌜ Cases r (Scanned (now (bytes .entry))) (λ e. verdict (now (bytes .entry)) ≡ Err (number (e .cause), e .offset)) ⌝ }
 {
     let mut chart = Chart::new();

@@ -10,7 +10,7 @@ pub enum Stored {
 }
 
 // What a kind word says, or none where it is no kind word.
-pub fn stored_by(word: u32) -> Option<Stored>
+pub(crate) fn stored_by(word: u32) -> Option<Stored>
     ensures { λ r. ⌜ r ≡ stored word ⌝ }
 {
     match word {

@@ -8,7 +8,7 @@ ghost use Rattle.std.specs.declared.option.Option.the-variants.{Some, None};
 ghost use Rattle.deck.specs.Words.{value};
 
 // The word at a place of an image, or none where fewer than four bytes are left.
-pub fn word_at(bytes: &[u8], at: usize) -> Option<u32>
+pub(crate) fn word_at(bytes: &[u8], at: usize) -> Option<u32>
     ensures { λ r. ⌜ r ≡ cond (ltb (length (now (bytes .entry))) (at + 4)) None (Some (value (drop at (now (bytes .entry))))) ⌝ }
 {
     if at > bytes.len() {
@@ -21,7 +21,7 @@ pub fn word_at(bytes: &[u8], at: usize) -> Option<u32>
 }
 
 // The word at a place, where four bytes are left.
-pub fn known_word(bytes: &[u8], at: usize) -> u32
+pub(crate) fn known_word(bytes: &[u8], at: usize) -> u32
     requires { ⌜ at + 4 ≤ length (now bytes) ⌝ }
     ensures { λ r. ⌜ r ≡ value (drop at (now (bytes .entry))) ⌝ }
 {

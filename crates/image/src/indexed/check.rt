@@ -99,7 +99,7 @@ fn check_entries(bytes: &[u8], reels: usize, blocks: usize) -> Result<(), Refusa
 }
 
 // The header's words in order: the first check that fails.
-pub fn check(bytes: &[u8]) -> Result<(), Refusal>
+pub(crate) fn check(bytes: &[u8]) -> Result<(), Refusal>
     ensures { λ r. ⌜ numbered r ≡ passed (verdict (now (bytes .entry))) ⌝ }
 {
     let reels = reel_count(bytes)?;
