@@ -20,7 +20,7 @@ use super::record::TRAILER;
 use super::record::check;
 
 // The most lines of a band.
-pub const MOST_LINES: u32 = 8192;
+const MOST_LINES: u32 = 8192;
 
 // Whether every byte of a body is zero.
 fn all_zero(body: &[u8]) -> bool

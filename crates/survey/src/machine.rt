@@ -12,16 +12,16 @@ pub struct Place {
 
 // What stands on a reel behind its directory's mark: a header, or an image file that goes on or has just ended. Nothing stands for a reel that
 // is not there, behind the last.
-#[derive(Clone, Copy, PartialEq, Eq, Debug)]
-pub enum Onward {
+#[derive(Clone, Copy)]
+pub(crate) enum Onward {
     Header,
     Image,
     Nothing,
 }
 
 // What must come next.
-#[derive(Clone, Copy, PartialEq, Eq, Debug)]
-pub enum Expect {
+#[derive(Clone, Copy)]
+pub(crate) enum Expect {
     // a reel's directory, and its mark
     Directory(Onward),
     DirectoryMark(Onward),
@@ -60,7 +60,7 @@ pub struct Group {
 }
 
 #[derive(Clone, Copy)]
-pub struct Machine {
+pub(crate) struct Machine {
     // the deck's reels
     pub reels: u32,
     pub expect: Expect,
@@ -77,7 +77,7 @@ pub struct Machine {
 
 // What came: a record, a mark, a bad block, or none.
 #[derive(Clone, Copy)]
-pub enum Seen<'a> {
+pub(crate) enum Seen<'a> {
     Record(&'a [u8]),
     Mark,
     Bad,
