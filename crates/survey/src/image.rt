@@ -90,7 +90,8 @@ impl Machine {
         ensures says { λ r. ⌜ stepped r (now (self .exit)) ≡ on-image (now (self .entry)) at (now (bytes .entry)) ⌝ }
         ensures stays_steady { λ r. ⌜ made r (λ _. Steady (now (self .exit))) ⌝ }
     {
-        check(bytes, self.layout.form.record_length(), IMAGE, self.group.blocks + 1)?;
+        let number = self.group.blocks + 1;
+        check(bytes, self.layout.form.record_length(), IMAGE, number)?;
         self.line(at, zero_body(bytes))?;
         Ok(())
     }
