@@ -13,7 +13,7 @@ pub struct Place {
 // What stands on a reel behind its directory's mark: a header, or an image file that goes on or has just ended. Nothing stands for a reel that
 // is not there, behind the last.
 #[derive(Clone, Copy)]
-pub(crate) enum Onward {
+pub enum Onward {
     Header,
     Image,
     Nothing,
@@ -21,7 +21,7 @@ pub(crate) enum Onward {
 
 // What must come next.
 #[derive(Clone, Copy)]
-pub(crate) enum Expect {
+pub enum Expect {
     // a reel's directory, and its mark
     Directory(Onward),
     DirectoryMark(Onward),
@@ -60,7 +60,7 @@ pub struct Group {
 }
 
 #[derive(Clone, Copy)]
-pub(crate) struct Machine {
+pub struct Machine {
     // the deck's reels
     pub reels: u32,
     pub expect: Expect,
