@@ -1,19 +1,17 @@
 -- The survey's reading, block by block and reel by reel.
-use mathlib.Core.Path.{_≡_, refl, sym, ap, subst, _∙_}
+use mathlib.Core.Path.{_≡_, refl, sym, ap, _∙_}
 use mathlib.Core.Bool.{Bool, true, false}
 use mathlib.Core.Logic.{⊎-elim}
-use mathlib.Core.List.{List, [], _∷_}
+use mathlib.Core.List.{[]}
 use Prim.Native.Nat.{ℕ, _+_, _-_, _≤_, _<_}
 use native.Mathlib.Omega.{arith}
 use lib.ListN.{length, drop, getD}
 use Rattle.std.specs.Options.{isSome}
-use Rattle.std.specs.declared.option.Option.{Option}
 use Rattle.std.specs.declared.option.Option.the-variants.{Some, None}
-use Rattle.std.specs.declared.result.Result.{Result}
 use Rattle.std.specs.declared.result.Result.the-variants.{Ok, Err}
 use Rattle.std.proofs.shelf.Lists.{at-drop-more, at-drop-all}
 use Rattle.std.proofs.shelf.Tests.{cases-lt, cases-bool, true≢false, false≢true}
-use Rattle.deck.specs.Tape.{Block, mark, Reel, TapeSet, look}
+use Rattle.deck.specs.Tape.{mark, Reel, TapeSet, look}
 use Rattle.deck.proofs.Looks.{look-there, look-no-block}
 use Rattle.survey.specs.Machines.{Steady, step}
 use Rattle.survey.specs.Surveys.{Fault, placed, then, place-of, feed-reel, feed, start, accepted, surveyed}
@@ -80,7 +78,7 @@ module _ (set : TapeSet) (m : Machine) (reel block : ℕ) (r : 1 ≤ reel) (ther
 abbrev pub from-reel : TapeSet → ℕ → TapeSet
 from-reel set reel = drop (reel - 1) set
 
-pub feed-next : (set : TapeSet) (m : Machine) (reel : ℕ) → 1 ≤ reel → reel ≤ length set → feed m reel (from-reel set reel) ≡ then (feed-reel m reel 1 (getD set (reel - 1) [])) (λ n. feed n (reel + 1) (from-reel set (reel + 1)))
+feed-next : (set : TapeSet) (m : Machine) (reel : ℕ) → 1 ≤ reel → reel ≤ length set → feed m reel (from-reel set reel) ≡ then (feed-reel m reel 1 (getD set (reel - 1) [])) (λ n. feed n (reel + 1) (from-reel set (reel + 1)))
 feed-next set m reel r there =
     let here : reel - 1 < length set = omega arith in
     let next : reel - 1 + 1 ≡ reel + 1 - 1 = omega arith in

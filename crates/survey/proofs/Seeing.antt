@@ -1,11 +1,11 @@
 -- What a fetch shows is the block that stands there.
-use mathlib.Core.Path.{_≡_, refl, sym, ap, subst, _∙_}
+use mathlib.Core.Path.{_≡_, refl, ap, subst}
 use mathlib.Core.Bool.{Bool, true, false, cond}
-use mathlib.Core.List.{List, [], _∷_, _++_}
-use Prim.Native.Nat.{ℕ, _+_, _/_, _≤_}
+use mathlib.Core.List.{List, _++_}
+use Prim.Native.Nat.{ℕ, _+_, _/_}
 use native.Mathlib.Omega.{arith}
 use lib.Dec.{ltb}
-use lib.ListN.{length, take, drop}
+use lib.ListN.{length, drop}
 use Rattle.std.specs.Options.{isSome}
 use Rattle.std.specs.declared.option.Option.{Option}
 use Rattle.std.specs.declared.option.Option.the-variants.{Some, None}
@@ -17,9 +17,8 @@ use Rattle.deck.specs.Tape.{Block, written, mark, bad}
 use Rattle.deck.specs.declared.Kind.{Kind}
 use Rattle.deck.specs.declared.Kind.the-variants as kinds
 use Rattle.deck.specs.declared.Short.{Short}
-use Rattle.survey.specs.Faults.{number, layer, deck-number, record-number, set-number}
-use Rattle.survey.specs.Surveys.{Fault, fault-at, told-fault, shown-in, there}
-use Rattle.survey.specs.declared.accepted.TapeFault.{TapeFault}
+use Rattle.survey.specs.Faults.{number, layer}
+use Rattle.survey.specs.Surveys.{fault-at, told-fault, shown-in, there}
 use Rattle.survey.specs.declared.machine.Place.{Place}
 use Rattle.survey.specs.declared.fault.Cause.{Cause}
 use Rattle.survey.specs.declared.fault.Cause.the-variants.{Deck, Record, Set}
@@ -45,7 +44,7 @@ shown-fetched (Some mark) buffer kind e = subst (λ k. (shown-in k buffer ≡ So
 shown-fetched (Some bad) buffer kind e = subst (λ k. (shown-in k buffer ≡ Some bad) × (there k ≡ true)) (same-kind kinds.Bad kind e) (refl, refl)
 
 -- The first digit of a fault's number is its layer.
-pub layer-digit : (c : Cause) → layer c ≡ number c / 10
+layer-digit : (c : Cause) → layer c ≡ number c / 10
 layer-digit (Deck decks.Absent) = refl
 layer-digit (Deck decks.Bad) = refl
 layer-digit (Record records.MarkForRecord) = refl

@@ -11,7 +11,7 @@ pub struct Bands {
 }
 
 // The bit of the band at a place among 4 to 8, in the byte of bands present.
-pub fn weight(place: u32) -> u8
+fn weight(place: u32) -> u8
     ensures { λ r. ⌜ r ≡ weight place ⌝ }
 {
     match place {
@@ -24,14 +24,14 @@ pub fn weight(place: u32) -> u8
 }
 
 // Whether the band at a place is present.
-pub fn present(mask: u8, place: u32) -> bool
+pub(crate) fn present(mask: u8, place: u32) -> bool
     ensures { λ r. ⌜ r ≡ present mask place ⌝ }
 {
     mask / weight(place) % 2 == 1
 }
 
 impl Bands {
-    pub fn new() -> Self
+    pub(crate) fn new() -> Self
         ensures { λ r. ⌜ r ≡ no-bands ⌝ }
     {
         Bands {
@@ -59,7 +59,7 @@ impl Bands {
     }
 
     // The bands of an image file, after those of the files before.
-    pub fn add_all(&mut self, content: Content)
+    pub(crate) fn add_all(&mut self, content: Content)
         ensures { λ _. ⌜ now (self .exit) ≡ more-bands content (now (self .entry)) ⌝ }
     {
         match content {

@@ -8,7 +8,7 @@ use super::layout::Form;
 use super::layout::Layout;
 
 // The length of a directory.
-pub const DIRECTORY_LENGTH: usize = 360;
+pub(crate) const DIRECTORY_LENGTH: usize = 360;
 
 fn form_of(letter: u8, order: u8) -> Option<Form>
     ensures { λ r. ⌜ r ≡ form-of letter order ⌝ }

@@ -49,7 +49,7 @@ pub enum Cause {
     Set(SetFault),
 }
 
-pub impl From<DeckFault> for Cause as CauseFromDeck {
+pub(crate) impl From<DeckFault> for Cause as CauseFromDeck {
     ghost converts = { λ e c. number c ≡ deck-number e };
 
     fn from(fault: DeckFault) -> Cause {
@@ -57,7 +57,7 @@ pub impl From<DeckFault> for Cause as CauseFromDeck {
     }
 }
 
-pub impl From<RecordFault> for Cause as CauseFromRecord {
+pub(crate) impl From<RecordFault> for Cause as CauseFromRecord {
     ghost converts = { λ e c. number c ≡ record-number e };
 
     fn from(fault: RecordFault) -> Cause {
@@ -65,7 +65,7 @@ pub impl From<RecordFault> for Cause as CauseFromRecord {
     }
 }
 
-pub impl From<SetFault> for Cause as CauseFromSet {
+pub(crate) impl From<SetFault> for Cause as CauseFromSet {
     ghost converts = { λ e c. number c ≡ set-number e };
 
     fn from(fault: SetFault) -> Cause {

@@ -15,7 +15,7 @@ pub enum Content {
 }
 
 // What a header says of its group: the bands of its image file, and how many records its trailer file has.
-#[derive(Clone, Copy, PartialEq, Eq, Debug)]
+#[derive(Clone, Copy)]
 pub struct Header {
     pub content: Content,
     pub trailers: u32,

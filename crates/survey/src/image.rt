@@ -20,7 +20,7 @@ use super::record::TRAILER;
 use super::record::check;
 
 // The most lines of a band.
-pub const MOST_LINES: u32 = 8192;
+const MOST_LINES: u32 = 8192;
 
 // Whether every byte of a body is zero.
 fn all_zero(body: &[u8]) -> bool
@@ -90,7 +90,8 @@ impl Machine {
         ensures says { λ r. ⌜ stepped r (now (self .exit)) ≡ on-image (now (self .entry)) at (now (bytes .entry)) ⌝ }
         ensures stays_steady { λ r. ⌜ made r (λ _. Steady (now (self .exit))) ⌝ }
     {
-        check(bytes, self.layout.form.record_length(), IMAGE, self.group.blocks + 1)?;
+        let number = self.group.blocks + 1;
+        check(bytes, self.layout.form.record_length(), IMAGE, number)?;
         self.line(at, zero_body(bytes))?;
         Ok(())
     }

@@ -54,7 +54,7 @@ impl Form {
     }
 
     // The byte by which directory and header tell the order of lines.
-    pub fn order_byte(self) -> u8
+    pub(crate) fn order_byte(self) -> u8
         ensures { λ r. ⌜ r ≡ order-byte self ⌝ }
     {
         match self {

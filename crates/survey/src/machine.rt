@@ -12,7 +12,7 @@ pub struct Place {
 
 // What stands on a reel behind its directory's mark: a header, or an image file that goes on or has just ended. Nothing stands for a reel that
 // is not there, behind the last.
-#[derive(Clone, Copy, PartialEq, Eq, Debug)]
+#[derive(Clone, Copy)]
 pub enum Onward {
     Header,
     Image,
@@ -20,7 +20,7 @@ pub enum Onward {
 }
 
 // What must come next.
-#[derive(Clone, Copy, PartialEq, Eq, Debug)]
+#[derive(Clone, Copy)]
 pub enum Expect {
     // a reel's directory, and its mark
     Directory(Onward),
@@ -77,7 +77,7 @@ pub struct Machine {
 
 // What came: a record, a mark, a bad block, or none.
 #[derive(Clone, Copy)]
-pub enum Seen<'a> {
+pub(crate) enum Seen<'a> {
     Record(&'a [u8]),
     Mark,
     Bad,

@@ -7,12 +7,12 @@ ghost use Rattle.survey.specs.Records.{has-number, checked, recorded};
 use super::fault::RecordFault;
 
 // The types of records, by their sixth byte.
-pub const DIRECTORY: u8 = 0o011;
-pub const HEADER: u8 = 0o022;
-pub const ANCILLARY: u8 = 0o044;
-pub const ANNOTATION: u8 = 0o333;
-pub const IMAGE: u8 = 0o355;
-pub const TRAILER: u8 = 0o366;
+pub(crate) const DIRECTORY: u8 = 0o011;
+pub(crate) const HEADER: u8 = 0o022;
+pub(crate) const ANCILLARY: u8 = 0o044;
+pub(crate) const ANNOTATION: u8 = 0o333;
+pub(crate) const IMAGE: u8 = 0o355;
+pub(crate) const TRAILER: u8 = 0o366;
 
 // Whether a record begins with its number.
 fn numbered(bytes: &[u8], number: u32) -> bool

@@ -1,7 +1,5 @@
 use mathlib.Core.Path.{sym, _∙_}
-use Prim.Native.Nat.{_<_, _≤_}
 use native.Mathlib.Omega.{arith}
-use lib.ListN.{length}
 use Rattle.survey.proofs.Zeros.{zero-more, zero-ends, zero-all}
 use Rattle.survey.proofs.image.all_zero.Needs as need
 
