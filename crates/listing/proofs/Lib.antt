@@ -1,3 +1,4 @@
 pub mod Reels
 pub mod Going
 pub mod Listed
+pub mod Names

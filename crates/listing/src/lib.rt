@@ -13,6 +13,8 @@ use image::StripDeck;
 use std::alloc::AllocError;
 use std::alloc::Global;
 
+mod bands;
+mod lines;
 mod runs;
 
 use runs::reel_listing;

@@ -22,6 +22,7 @@ use survey::survey;
 pub const MOST_TALLIED: u64 = 9223372036854775807;
 
 // A reader owns its deck. It remembers what its last survey accepted, and how many lines it has delivered.
+#[derive(Drop)]
 pub struct Reader<D> {
     deck: D,
     accepted: Option<Accepted>,
