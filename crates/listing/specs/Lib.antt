@@ -1,3 +1,3 @@
 pub mod Blocks
-pub mod Strips
 pub mod Tapes
+pub mod Strips

@@ -65,14 +65,14 @@ abbrev pub bands-text : TapeSet → Option Accepted → ℕ → List ℕ → Lis
 bands-text set m lines [] = []
 bands-text set m lines (c ∷ cs) = band-text c (readable set m c lines) ++ bands-text set m lines cs
 
--- The lines of the bands present.
-abbrev pub present-text : TapeSet → Option Accepted → ℕ → List ℕ
-present-text set None lines = []
-present-text set (Some a) lines = bands-text set (Some a) lines (codes a)
+-- The codes of the bands that are remembered.
+abbrev pub present : Option Accepted → List ℕ
+present None = []
+present (Some a) = codes a
 
 -- What a survey's outcome is written as: the accepted set and its bands, or the fault.
 abbrev pub survey-text : TapeSet → Result Accepted Fault → List ℕ
-survey-text set (Ok a) = set-text (outline a) ++ present-text set (Some a) (a .summary .lines)
+survey-text set (Ok a) = set-text (outline a) ++ bands-text set (Some a) (a .summary .lines) (codes a)
 survey-text set (Err f) = fault-text f
 
 abbrev pub tape-text : TapeSet → List ℕ

@@ -1,8 +1,10 @@
 // The bands of an accepted set, and their readable lines.
 ghost use mathlib.Core.Path.{_≡_};
+ghost use Prim.Native.Nat.{_≤_};
+ghost use lib.ListN.{length};
 ghost use Rattle.std.specs.Of.String.{string-bytes};
 ghost use Rattle.std.specs.Vec.{made};
-ghost use Rattle.listing.specs.Tapes.{readable, present-text};
+ghost use Rattle.listing.specs.Tapes.{readable, bands-text, present};
 use super::lines::band_line;
 use deck::Deck;
 use reader::Reader;
@@ -30,7 +32,8 @@ fn readable<D: Deck>(reader: &mut Reader<D>, code: u8, lines: u32) -> u32
 
 // The lines of the bands present.
 pub(crate) fn bands_listing<D: Deck>(heap: Global, reader: &mut Reader<D>, lines: u32) -> Result<String, AllocError>
-    ensures { λ r. ⌜ made r (λ t. string-bytes t ≡ present-text (meaning (now (reader .entry) .deck)) (now (reader .entry) .accepted) lines) ⌝ }
+    requires { ⌜ length (present (now reader .accepted)) ≤ 5 ⌝ }
+    ensures { λ r. ⌜ made r (λ t. string-bytes t ≡ bands-text (meaning (now (reader .entry) .deck)) (now (reader .entry) .accepted) lines (present (now (reader .entry) .accepted))) ⌝ }
 {
     let mut text = String::new(heap);
     let mut k = 1;
