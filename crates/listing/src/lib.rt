@@ -5,27 +5,23 @@ ghost use Rattle.std.specs.Of.Vec.{vec-items};
 ghost use Rattle.std.specs.Vec.{made};
 ghost use Rattle.image.specs.Stored.{number};
 ghost use Rattle.listing.specs.Blocks.{blocks-text};
-ghost use Rattle.listing.specs.Strips.{refusal-text, strip-text, strip-tape-text};
-ghost use Rattle.listing.specs.Tapes.{tape-text};
+ghost use Rattle.listing.specs.Strips.{refusal-text, strip-text};
 use deck::Deck;
 use image::Refusal;
 use image::Strip;
 use image::StripDeck;
-use reader::Reader;
 use std::alloc::AllocError;
 use std::alloc::Global;
 
 mod bands;
 mod lines;
 mod runs;
+mod tapes;
 
-use bands::bands_listing;
-use lines::fault_line;
-use lines::set_line;
 use runs::reel_listing;
 
-// The longest strip of which a tape set is listed, in bytes.
-const LONGEST_STRIP: usize = 65536;
+pub use tapes::strip_tape;
+pub use tapes::tape;
 
 // The blocks of a deck's reels: for each reel how many there are, and a line for each run of equal ones.
 pub fn blocks<D: Deck>(heap: Global, deck: &mut D) -> Result<String, AllocError>
@@ -38,21 +34,6 @@ pub fn blocks<D: Deck>(heap: Global, deck: &mut D) -> Result<String, AllocError>
         text.push_str(listing.as_str())?;
     }
     Ok(text)
-}
-
-// What a deck holds, as a reader finds it: the set and how many lines of each band can be read, or the fault.
-pub fn tape<D: Deck + Drop>(heap: Global, deck: D) -> Result<String, AllocError>
-    ensures { λ r. ⌜ made r (λ t. string-bytes t ≡ tape-text (meaning deck)) ⌝ }
-{
-    let mut reader = Reader::new(deck);
-    match reader.survey() {
-        Ok(outline) => {
-            let set = set_line(heap, outline)?;
-            let bands = bands_listing(heap, &mut reader, outline.lines)?;
-            format!(heap, "{set}{bands}")
-        }
-        Err(refusal) => fault_line(heap, refusal),
-    }
 }
 
 // The line of a refused image: `IMAGE`, the refusal's number and its place.
@@ -70,19 +51,6 @@ pub fn strip_blocks(heap: Global, bytes: Vec<u8>) -> Result<String, AllocError>
 {
     match Strip::open(bytes) {
         Ok(mut strip) => blocks(heap, &mut strip),
-        Err(unopened) => refusal(heap, unopened.refusal),
-    }
-}
-
-// What these bytes are as a strip: its tape set, its refusal, or `LONG` where there are too many.
-pub fn strip_tape(heap: Global, bytes: Vec<u8>) -> Result<String, AllocError>
-    ensures { λ r. ⌜ made r (λ t. string-bytes t ≡ strip-tape-text (vec-items bytes)) ⌝ }
-{
-    if bytes.len() > LONGEST_STRIP {
-        return String::from_str(heap, "LONG\n");
-    }
-    match Strip::open(bytes) {
-        Ok(strip) => tape(heap, strip),
         Err(unopened) => refusal(heap, unopened.refusal),
     }
 }
