@@ -13,9 +13,15 @@ use image::StripDeck;
 use std::alloc::AllocError;
 use std::alloc::Global;
 
+mod bands;
+mod lines;
 mod runs;
+mod tapes;
 
 use runs::reel_listing;
+
+pub use tapes::strip_tape;
+pub use tapes::tape;
 
 // The blocks of a deck's reels: for each reel how many there are, and a line for each run of equal ones.
 pub fn blocks<D: Deck>(heap: Global, deck: &mut D) -> Result<String, AllocError>

@@ -1,6 +1,8 @@
 // A reader over a deck.
 ghost use mathlib.Core.Path.{_≡_};
+ghost use Prim.Native.Nat.{_≤_};
 ghost use lib.ListN.{length};
+ghost use Rattle.std.specs.Vec.{made};
 ghost use Rattle.std.specs.declared.option.Option.the-variants.{None};
 ghost use Rattle.deck.specs.Tape.{from-one};
 ghost use Rattle.survey.specs.Surveys.{surveyed};
@@ -63,11 +65,12 @@ impl<D: Deck> Reader<D> {
         self.tally
     }
 
-    // Surveys the set and remembers what it accepts. The tally stays.
+    // Surveys the set and remembers what it accepts, of which at most five bands are present. The tally stays.
     pub fn survey(&mut self) -> Result<Outline, Refusal>
         ensures stays { λ _. ⌜ meaning (now (self .exit) .deck) ≡ meaning (now (self .entry) .deck) ⌝ }
         ensures says { λ r. ⌜ told r ≡ survey-answer (surveyed (meaning (now (self .entry) .deck))) ⌝ }
         ensures remembers { λ _. ⌜ now (self .exit) .accepted ≡ accepted-by (surveyed (meaning (now (self .entry) .deck))) ⌝ ∗ ⌜ now (self .exit) .tally ≡ now (self .entry) .tally ⌝ }
+        ensures few { λ r. ⌜ made r (λ o. o .bands ≤ 5) ⌝ }
     {
         match survey(&mut self.deck) {
             Ok(accepted) => {
@@ -181,7 +184,8 @@ fn code_at(codes: &[u8], k: u32) -> Option<u8>
 }
 
 fn outline(accepted: &Accepted) -> Outline
-    ensures { λ r. ⌜ r ≡ outline (now (accepted .entry)) ⌝ }
+    ensures is { λ r. ⌜ r ≡ outline (now (accepted .entry)) ⌝ }
+    ensures few { λ r. ⌜ r .bands ≤ 5 ⌝ }
 {
     let layout = accepted.summary.layout;
     Outline {
