@@ -35,8 +35,8 @@ from-one-is xs (suc n) h = ap (nth xs) (omega arith)
 pub look-there : (set : TapeSet) (reel block : ℕ) → 0 < reel → 0 < block → reel - 1 < length set → block - 1 < length (getD set (reel - 1) []) → look set reel block ≡ Some (getD (getD set (reel - 1) []) (block - 1) mark)
 look-there set reel block r b hr hb =
     ap (λ o. look-on o block) (from-one-is set reel r ∙ nth-there set (reel - 1) [] hr)
-      ∙ from-one-is (getD set (reel - 1) []) block b
-      ∙ nth-there (getD set (reel - 1) []) (block - 1) mark hb
+    ∙ from-one-is (getD set (reel - 1) []) block b
+    ∙ nth-there (getD set (reel - 1) []) (block - 1) mark hb
 
 pub look-no-reel : (set : TapeSet) (reel block : ℕ) → 0 < reel → length set ≤ reel - 1 → look set reel block ≡ None
 look-no-reel set reel block r h = ap (λ o. look-on o block) (from-one-is set reel r ∙ nth-past set (reel - 1) h)
@@ -44,8 +44,8 @@ look-no-reel set reel block r h = ap (λ o. look-on o block) (from-one-is set re
 pub look-no-block : (set : TapeSet) (reel block : ℕ) → 0 < reel → 0 < block → reel - 1 < length set → length (getD set (reel - 1) []) ≤ block - 1 → look set reel block ≡ None
 look-no-block set reel block r b hr hb =
     ap (λ o. look-on o block) (from-one-is set reel r ∙ nth-there set (reel - 1) [] hr)
-      ∙ from-one-is (getD set (reel - 1) []) block b
-      ∙ nth-past (getD set (reel - 1) []) (block - 1) hb
+    ∙ from-one-is (getD set (reel - 1) []) block b
+    ∙ nth-past (getD set (reel - 1) []) (block - 1) hb
 
 on-zero : (o : Option Reel) → look-on o 0 ≡ None
 on-zero None = refl

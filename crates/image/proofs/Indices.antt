@@ -57,7 +57,7 @@ count-says xs at n e =
 say-count : (xs : List ℕ) (at n : ℕ) → says xs at n → n ≤ 65535 → block-count xs at ≡ Ok n
 say-count xs at n s u =
     ap (λ v. and-then v (λ m. cond (ltb 65535 m) (Err (3, at)) (Ok m))) (says-whole xs at n s)
-      ∙ cond-false (ltb 65535 n) (Err (3, at)) (Ok n) (le-ltb 65535 n u)
+    ∙ cond-false (ltb 65535 n) (Err (3, at)) (Ok n) (le-ltb 65535 n u)
 
 -- An entry that is read is its block's.
 checked-entry : (xs : List ℕ) (head at offset kind : ℕ) (b : Block) (o : Option Stored) → says xs at offset → says xs (at + 4) kind → stored kind ≡ o → check-entry xs head offset (at + 4) o ≡ Ok b → Entry xs head at b × SoundBlock b
@@ -100,17 +100,17 @@ sum-on total n ns = ap Ok (omega (arith, sumBy-cons (λ x. x) n ns))
 read-entry : (xs : List ℕ) (head at offset : ℕ) (b : Block) → SoundBlock b → says xs at offset → says xs (at + 4) (word-of (stored-as b)) → entry xs head at ≡ check-entry xs head offset (at + 4) (Some (stored-as b))
 read-entry xs head at offset b s o k =
     ap (λ v. and-then v (λ offset. and-then (whole xs (at + 4)) (λ kind. check-entry xs head offset (at + 4) (stored kind)))) (says-whole xs at offset o)
-      ∙ ap (λ v. and-then v (λ kind. check-entry xs head offset (at + 4) (stored kind))) (says-whole xs (at + 4) (word-of (stored-as b)) k)
-      ∙ ap (check-entry xs head offset (at + 4)) (stored-word b s)
+    ∙ ap (λ v. and-then v (λ kind. check-entry xs head offset (at + 4) (stored kind))) (says-whole xs (at + 4) (word-of (stored-as b)) k)
+    ∙ ap (check-entry xs head offset (at + 4)) (stored-word b s)
 
 is-entry : (xs : List ℕ) (head at : ℕ) (b : Block) → SoundBlock b → Entry xs head at b → entry xs head at ≡ Ok b
 is-entry xs head at (written bytes) s l =
     let n = length bytes in
     let there = cond {A = Verdict Block} (ltb (length xs) (l .offset + n)) (Err (4, at + 4)) (Ok (written (take n (drop (l .offset) xs)))) in
     read-entry xs head at (l .offset) (written bytes) s (l .leads) (l .kind)
-      ∙ cond-false (ltb (l .offset) head) (Err (4, at + 4)) there (le-ltb (l .offset) head (l .behind))
-      ∙ cond-false (ltb (length xs) (l .offset + n)) (Err (4, at + 4)) (Ok (written (take n (drop (l .offset) xs)))) (le-ltb (length xs) (l .offset + n) (l .inside))
-      ∙ ap (λ t. Ok (written t)) (l .there)
+    ∙ cond-false (ltb (l .offset) head) (Err (4, at + 4)) there (le-ltb (l .offset) head (l .behind))
+    ∙ cond-false (ltb (length xs) (l .offset + n)) (Err (4, at + 4)) (Ok (written (take n (drop (l .offset) xs)))) (le-ltb (length xs) (l .offset + n) (l .inside))
+    ∙ ap (λ t. Ok (written t)) (l .there)
 is-entry xs head at mark s l = read-entry xs head at 0 mark s (l .0) (l .1)
 is-entry xs head at bad s l = read-entry xs head at 0 bad s (l .0) (l .1)
 
@@ -138,8 +138,8 @@ cut-set : (set : TapeSet) → cut (lengths set) (blocks set) ≡ set
 cut-set [] = refl
 cut-set (reel ∷ set) =
     ap (λ r. r ∷ cut (lengths set) (drop (length reel) (reel ++ blocks set))) (take-at reel (blocks set) (length reel) refl)
-      ∙ ap (λ bs. reel ∷ cut (lengths set) bs) (drop-at reel (blocks set) (length reel) refl)
-      ∙ ap (λ s. reel ∷ s) (cut-set set)
+    ∙ ap (λ bs. reel ∷ cut (lengths set) bs) (drop-at reel (blocks set) (length reel) refl)
+    ∙ ap (λ s. reel ∷ s) (cut-set set)
 
 sum-lengths : (set : TapeSet) → sum (lengths set) ≡ length (blocks set)
 sum-lengths [] = refl
@@ -185,12 +185,12 @@ module _ (xs : List ℕ) (n : ℕ) (ns : List ℕ) (bs : List Block) (reels-read
   count : (i : ℕ) → i < length (cut ns bs) → says xs (4 + 4 * i) (length (getD (cut ns bs) i [])) × (length (getD (cut ns bs) i []) ≤ 65535)
   count i h =
       subst (λ m. says xs (4 + 4 * i) m × (m ≤ 65535)) (sym (cut-at ns bs i long (omega (arith, reels-are, many))))
-        (count-says xs (4 + 4 * i) (getD ns i 0) (row-at (block-count xs) 4 4 n ns i 0 counts-read (omega (arith, reels-are))))
+      (count-says xs (4 + 4 * i) (getD ns i 0) (row-at (block-count xs) 4 4 n ns i 0 counts-read (omega (arith, reels-are))))
 
   listed : (i : ℕ) → i < length bs → Entry xs (header n (sum ns)) (first-entry n + 8 * i) (getD bs i mark) × SoundBlock (getD bs i mark)
   listed i h =
       entry-is xs (header n (sum ns)) (first-entry n + 8 * i) (getD bs i mark)
-        (row-at (entry xs (header n (sum ns))) 8 (first-entry n) (sum ns) bs i mark entries-read (omega (arith, long)))
+      (row-at (entry xs (header n (sum ns))) 8 (first-entry n) (sum ns) bs i mark entries-read (omega (arith, long)))
 
   cut-sound : Sound (cut ns bs)
   cut-sound = record {
@@ -202,7 +202,7 @@ module _ (xs : List ℕ) (n : ℕ) (ns : List ℕ) (bs : List Block) (reels-read
   cut-entries : (i : ℕ) → i < length bs → Entry xs (header (length (cut ns bs)) (length bs)) (first-entry (length (cut ns bs)) + 8 * i) (getD bs i mark)
   cut-entries i h =
       subst (λ m. Entry xs (header m (length bs)) (first-entry m + 8 * i) (getD bs i mark)) (sym reels-are)
-        (subst (λ m. Entry xs (header n m) (first-entry n + 8 * i) (getD bs i mark)) (sym long) (listed i h .0))
+      (subst (λ m. Entry xs (header n m) (first-entry n + 8 * i) (getD bs i mark)) (sym long) (listed i h .0))
 
   cut-encodes : Encodes xs (cut ns bs)
   cut-encodes = record {
@@ -230,18 +230,18 @@ judged-so xs set s e =
     let head = header n (length (blocks set)) in
     let reels : reel-count xs ≡ Ok n = say-reels xs n (e .reels) (s .some) (s .few) in
     let count : (i : ℕ) → i < length (lengths set) → block-count xs (4 + 4 * i) ≡ Ok (getD (lengths set) i 0) = λ i h.
-      let inside : i < length set = omega (arith, h, length-map set length) in
-      say-count xs (4 + 4 * i) (length (getD set i [])) (e .counts i inside) (reel-sound set i (s .reels) .0)
-        ∙ ap Ok (sym (getD-map length set i [] 0 inside)) in
+    let inside : i < length set = omega (arith, h, length-map set length) in
+    say-count xs (4 + 4 * i) (length (getD set i [])) (e .counts i inside) (reel-sound set i (s .reels) .0)
+    ∙ ap Ok (sym (getD-map length set i [] 0 inside)) in
     let counts : row (block-count xs) 4 4 n ≡ Ok (lengths set) = ap (row (block-count xs) 4 4) (sym (length-map set length)) ∙ row-from (block-count xs) 4 4 (lengths set) 0 count in
     let entries : row (entry xs head) 8 (first-entry n) (length (blocks set)) ≡ Ok (blocks set) =
-      row-from (entry xs head) 8 (first-entry n) (blocks set) mark
-        (λ i h. is-entry xs head (first-entry n + 8 * i) (getD (blocks set) i mark) (block-sound (blocks set) i (reels-sound set (s .reels))) (e .entries i h)) in
+    row-from (entry xs head) 8 (first-entry n) (blocks set) mark
+    (λ i h. is-entry xs head (first-entry n + 8 * i) (getD (blocks set) i mark) (block-sound (blocks set) i (reels-sound set (s .reels))) (e .entries i h)) in
     ap (λ v. and-then v (λ m. and-then (row (block-count xs) 4 4 m) (reel-entries xs m))) reels
-      ∙ ap (λ v. and-then v (reel-entries xs n)) counts
-      ∙ ap (λ m. and-then (row (entry xs (header n m)) 8 (first-entry n) m) (λ bs. Ok (cut (lengths set) bs))) (sum-lengths set)
-      ∙ ap (λ v. and-then v (λ bs. Ok (cut (lengths set) bs))) entries
-      ∙ ap Ok (cut-set set)
+    ∙ ap (λ v. and-then v (reel-entries xs n)) counts
+    ∙ ap (λ m. and-then (row (entry xs (header n m)) 8 (first-entry n) m) (λ bs. Ok (cut (lengths set) bs))) (sum-lengths set)
+    ∙ ap (λ v. and-then v (λ bs. Ok (cut (lengths set) bs))) entries
+    ∙ ap Ok (cut-set set)
 
 pub exactly-judged : (xs : List ℕ) → Exactly (Encodes xs) (verdict xs)
 exactly-judged xs = record { only = judged xs; every = judged-so xs }

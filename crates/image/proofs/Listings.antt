@@ -36,8 +36,8 @@ module _ (set : TapeSet) (r b : ℕ) (on-reel : r < length set) (on-block : b < 
   pub block-among : getD (blocks set) (length (blocks (take r set)) + b) mark ≡ getD (getD set r []) b mark
   block-among =
       ap (λ bs. getD bs (length (blocks (take r set)) + b) mark) split
-        ∙ getD-append-add (blocks (take r set)) (getD set r [] ++ blocks (drop (r + 1) set)) b mark
-        ∙ getD-append-left (getD set r []) (blocks (drop (r + 1) set)) mark b on-block
+      ∙ getD-append-add (blocks (take r set)) (getD set r [] ++ blocks (drop (r + 1) set)) b mark
+      ∙ getD-append-left (getD set r []) (blocks (drop (r + 1) set)) mark b on-block
 
 -- What an entry leads to is its block.
 listed-as : (xs : List ℕ) (head at : ℕ) (b : Block) → Entry xs head at b → (seen xs (found-if (value (drop at xs)) (Some (stored-as b))) ≡ Some b) × Inside xs (found-if (value (drop at xs)) (Some (stored-as b)))

@@ -27,8 +27,8 @@ every-strip xs set s e = ap verdict (sym e) ∙ judged-encoded set s
 pub exactly-opened : (xs : List ℕ) → Reads xs → Exactly (λ set. encoded set ≡ xs) (Ok (meant xs))
 exactly-opened xs r = record {
   only = λ set e.
-    let is : meant xs ≡ set = same-set (Ok (meant xs)) (meant xs) set refl e in
-    subst (λ s. Sound s × (encoded s ≡ xs)) is (judged-sound xs (meant xs) (r .judged), r .spells);
+      let is : meant xs ≡ set = same-set (Ok (meant xs)) (meant xs) set refl e in
+      subst (λ s. Sound s × (encoded s ≡ xs)) is (judged-sound xs (meant xs) (r .judged), r .spells);
   every = λ set s e. sym (r .judged) ∙ every-strip xs set s e;
 }
 

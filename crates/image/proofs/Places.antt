@@ -36,7 +36,7 @@ joined-at f (x ∷ xs) zero d h = refl
 joined-at f (x ∷ xs) (suc i) d h =
     let further : drop (suc i + 1) (x ∷ xs) ≡ drop (i + 1) xs = ap (λ k. drop k (x ∷ xs)) (add-one (suc i)) ∙ ap (λ k. drop k xs) (sym (add-one i)) in
     ap (λ t. f x ++ t) (joined-at f xs i d (omega arith) ∙ ap (λ t. joined f (take i xs) ++ (f (getD xs i d) ++ joined f t)) (sym further))
-      ∙ sym (append-assoc (f x) (joined f (take i xs)) (f (getD xs i d) ++ joined f (drop (suc i + 1) (x ∷ xs))))
+    ∙ sym (append-assoc (f x) (joined f (take i xs)) (f (getD xs i d) ++ joined f (drop (suc i + 1) (x ∷ xs))))
 
 pub joined-length : {X A : Type 0} (f : X → List A) (xs : List X) (i : ℕ) (d : X) → i < length xs → length (joined f (take (i + 1) xs)) ≡ length (joined f (take i xs)) + length (f (getD xs i d))
 joined-length f [] i d h = absurd (omega arith)
@@ -59,11 +59,11 @@ at-place set r b hr hb =
     let before = joined block-bytes (take b reel) in
     let after = joined block-bytes (drop (b + 1) reel) in
     let there : (joined block-bytes reel ++ word 4294967294) ++ rest ≡ before ++ (block ++ (after ++ (word 4294967294 ++ rest))) =
-      ap (λ t. (t ++ word 4294967294) ++ rest) (joined-at block-bytes reel b mark hb) ∙ simp append-assoc in
+    ap (λ t. (t ++ word 4294967294) ++ rest) (joined-at block-bytes reel b mark hb) ∙ simp append-assoc in
     ap (drop (place set r b)) (joined-at reel-bytes set r [] hr)
-      ∙ drop-append-add (encoded (take r set)) (reel-bytes reel ++ rest) inner
-      ∙ ap (drop inner) there
-      ∙ drop-append-seam before (block ++ (after ++ (word 4294967294 ++ rest)))
+    ∙ drop-append-add (encoded (take r set)) (reel-bytes reel ++ rest) inner
+    ∙ ap (drop inner) there
+    ∙ drop-append-seam before (block ++ (after ++ (word 4294967294 ++ rest)))
 
 -- The place of the next block.
 pub place-on : (set : TapeSet) (r b : ℕ) → b < length (getD set r []) → place set r (b + 1) ≡ place set r b + length (block-bytes (getD (getD set r []) b mark))

@@ -64,7 +64,7 @@ module _ {X : Type 0} (read : ℕ → Verdict X) (step : ℕ) where
       let first : read at ≡ Ok x = ap read (sym (first-place at)) ∙ h 0 (omega arith) in
       let rest = row-from (at + step) xs d (λ i l. ap read (next-place at step i) ∙ h (suc i) (omega arith)) in
       ap (λ v. and-then v (λ y. and-then (row read step (at + step) (length xs)) (λ more. Ok (y ∷ more)))) first
-        ∙ ap (λ v. and-then v (λ more. Ok (x ∷ more))) rest
+      ∙ ap (λ v. and-then v (λ more. Ok (x ∷ more))) rest
 
   -- What is left of a row behind some of its results: the next result is read, or refused.
   pub row-on : {Y : Type 0} (f g : List X → Verdict Y) (at n i : ℕ) (x : X) → i < n → read (at + step * i) ≡ Ok x → ((more : List X) → f (x ∷ more) ≡ g more) → and-then (row read step (at + step * i) (n - i)) f ≡ and-then (row read step (at + step * (i + 1)) (n - (i + 1))) g
@@ -73,13 +73,13 @@ module _ {X : Type 0} (read : ℕ → Verdict X) (step : ℕ) where
       let left : n - i ≡ suc (n - (i + 1)) = omega arith in
       let on : here + step ≡ at + step * (i + 1) = omega (arith, ap (λ k. step * k) (add-one i), mul-suc step i) in
       ap (λ k. and-then (row read step here k) f) left
-        ∙ ap (λ v. and-then (and-then v (λ y. and-then (row read step (here + step) (n - (i + 1))) (λ more. Ok (y ∷ more)))) f) e
-        ∙ regrouped (row read step (here + step) (n - (i + 1))) (λ more. x ∷ more) f g same
-        ∙ ap (λ k. and-then (row read step k (n - (i + 1))) g) on
+      ∙ ap (λ v. and-then (and-then v (λ y. and-then (row read step (here + step) (n - (i + 1))) (λ more. Ok (y ∷ more)))) f) e
+      ∙ regrouped (row read step (here + step) (n - (i + 1))) (λ more. x ∷ more) f g same
+      ∙ ap (λ k. and-then (row read step k (n - (i + 1))) g) on
 
   pub row-stops : {Y : Type 0} (f : List X → Verdict Y) (at n i : ℕ) (e : ℕ × ℕ) → i < n → read (at + step * i) ≡ Err e → and-then (row read step (at + step * i) (n - i)) f ≡ Err e
   row-stops f at n i e h is =
       let here = at + step * i in
       let left : n - i ≡ suc (n - (i + 1)) = omega arith in
       ap (λ k. and-then (row read step here k) f) left
-        ∙ ap (λ v. and-then (and-then v (λ y. and-then (row read step (here + step) (n - (i + 1))) (λ more. Ok (y ∷ more)))) f) is
+      ∙ ap (λ v. and-then (and-then v (λ y. and-then (row read step (here + step) (n - (i + 1))) (λ more. Ok (y ∷ more)))) f) is

@@ -49,24 +49,24 @@ module _ (reels : TapeSet) (reel : Reel) (c : Chart) (blocks end : ℕ) (charted
       let many = charted .many in
       let all : length (reels ++ reel ∷ []) ≡ length reels + 1 = length-append reels (reel ∷ []) in
       ⊎-elim
-        (λ e. let inside : i < length (c .starts) = omega arith in
-          subst (λ j. getD (set (c .starts) j end) i 0 ≡ length (encoded (take i (reels ++ reel ∷ [])))) (sym e)
-            (getD-set-same (c .starts) i end 0 inside ∙ ended ∙ ap (λ t. length (encoded t)) (sym (take-all i (reels ++ reel ∷ []) (omega arith)))))
-        (λ n. let low : i ≤ length reels = omega arith in
-          getD-set-other (c .starts) (c .reels + 1) i end 0 (λ e. n (sym e)) ∙ charted .starts i low ∙ ap (λ t. length (encoded t)) (sym (take-append-le i reels (reel ∷ []) low)))
-        (cases-eq (c .reels + 1) i)
+      (λ e. let inside : i < length (c .starts) = omega arith in
+      subst (λ j. getD (set (c .starts) j end) i 0 ≡ length (encoded (take i (reels ++ reel ∷ [])))) (sym e)
+      (getD-set-same (c .starts) i end 0 inside ∙ ended ∙ ap (λ t. length (encoded t)) (sym (take-all i (reels ++ reel ∷ []) (omega arith)))))
+      (λ n. let low : i ≤ length reels = omega arith in
+      getD-set-other (c .starts) (c .reels + 1) i end 0 (λ e. n (sym e)) ∙ charted .starts i low ∙ ap (λ t. length (encoded t)) (sym (take-append-le i reels (reel ∷ []) low)))
+      (cases-eq (c .reels + 1) i)
 
   counts-more : (i : ℕ) → i < length (reels ++ reel ∷ []) → getD (set (c .counts) (c .reels) blocks) i 0 ≡ length (getD (reels ++ reel ∷ []) i [])
   counts-more i h =
       let many = charted .many in
       let all : length (reels ++ reel ∷ []) ≡ length reels + 1 = length-append reels (reel ∷ []) in
       ⊎-elim
-        (λ e. let inside : i < length (c .counts) = omega arith in
-          subst (λ j. getD (set (c .counts) j blocks) i 0 ≡ length (getD (reels ++ reel ∷ []) i [])) (sym e)
-            (getD-set-same (c .counts) i blocks 0 inside ∙ counted ∙ ap length (sym (getD-at reels reel [] [] i (sym many ∙ e)))))
-        (λ n. let low : i < length reels = omega arith in
-          getD-set-other (c .counts) (c .reels) i blocks 0 (λ e. n (sym e)) ∙ charted .counts i low ∙ ap length (sym (getD-append-left reels (reel ∷ []) [] i low)))
-        (cases-eq (c .reels) i)
+      (λ e. let inside : i < length (c .counts) = omega arith in
+      subst (λ j. getD (set (c .counts) j blocks) i 0 ≡ length (getD (reels ++ reel ∷ []) i [])) (sym e)
+      (getD-set-same (c .counts) i blocks 0 inside ∙ counted ∙ ap length (sym (getD-at reels reel [] [] i (sym many ∙ e)))))
+      (λ n. let low : i < length reels = omega arith in
+      getD-set-other (c .counts) (c .reels) i blocks 0 (λ e. n (sym e)) ∙ charted .counts i low ∙ ap length (sym (getD-append-left reels (reel ∷ []) [] i low)))
+      (cases-eq (c .reels) i)
 
   charts-more : Charts (reels ++ reel ∷ []) (with-reel c blocks end)
   charts-more = record {

@@ -177,8 +177,8 @@ means-ends at reels reel xs set r n m =
     record {
       sound = m .sound;
       spells = λ b.
-        let word-there : xs ≡ word 4294967294 ++ drop 4 xs = spelt xs 4294967294 b (f .1) (f .2) in
-        ap (λ t. encoded reels ++ (joined block-bytes reel ++ t)) word-there
+          let word-there : xs ≡ word 4294967294 ++ drop 4 xs = spelt xs 4294967294 b (f .1) (f .2) in
+          ap (λ t. encoded reels ++ (joined block-bytes reel ++ t)) word-there
           ∙ sym (ap (λ t. t ++ drop 4 xs) (encoded-more reels reel) ∙ simp append-assoc)
           ∙ m .spells (bytes-drop xs 4 b);
     }
@@ -200,8 +200,8 @@ means-holds at reels reel xs set s n m =
     record {
       sound = m .sound;
       spells = λ bytes.
-        let there : xs ≡ block-bytes b ++ drop (size s) xs = held-bytes s xs bytes (h .whole) (stored-is (value xs) s (h .kind) .0) (h .closing) in
-        ap (λ t. encoded reels ++ (joined block-bytes reel ++ t)) there
+          let there : xs ≡ block-bytes b ++ drop (size s) xs = held-bytes s xs bytes (h .whole) (stored-is (value xs) s (h .kind) .0) (h .closing) in
+          ap (λ t. encoded reels ++ (joined block-bytes reel ++ t)) there
           ∙ sym (ap (λ t. encoded reels ++ (t ++ drop (size s) xs)) (blocks-more reel b) ∙ simp append-assoc)
           ∙ m .spells (bytes-drop xs (size s) bytes);
     }
@@ -254,8 +254,8 @@ stored-record n l u = grind (arith, tells)
 word-record : (at blocks n : ℕ) (xs : List ℕ) → blocks < 65535 → 1 ≤ n → n ≤ 5388 → check-word at blocks n xs ≡ check-closed at (Record n) xs
 word-record at blocks n xs b l u =
     cond-false (eqb n 4294967294) (Ok ReelEnds) (check-kind at blocks (stored n) xs) (ne-eqb n 4294967294 (λ e. omega arith))
-      ∙ ap (λ o. check-kind at blocks o xs) (stored-record n l u)
-      ∙ room at blocks (Record n) xs b
+    ∙ ap (λ o. check-kind at blocks o xs) (stored-record n l u)
+    ∙ room at blocks (Record n) xs b
 
 closing-record : (at n : ℕ) (xs : List ℕ) → n + 8 ≤ length xs → value (drop (n + 4) xs) ≡ n → check-closed at (Record n) xs ≡ Ok (Holds (Record n))
 closing-record at n xs l e = grind (arith, tells)
@@ -270,9 +270,9 @@ next-written at reels blocks bytes ys r b l u =
     let tail : drop (n + 4) xs ≡ word n ++ ys = ap (drop (n + 4)) (regrouped ∙ sym (append-assoc (word n) bytes (word n ++ ys))) ∙ drop-at (word n ++ bytes) (word n ++ ys) (n + 4) (omega arith) in
     let closes : value (drop (n + 4) xs) ≡ n = ap value tail ∙ value-word n ys (omega arith) in
     passes at reels blocks xs r (omega arith)
-      ∙ ap (λ w. check-word at blocks w xs) says
-      ∙ word-record at blocks n xs b l u
-      ∙ closing-record at n xs (omega arith) closes
+    ∙ ap (λ w. check-word at blocks w xs) says
+    ∙ word-record at blocks n xs b l u
+    ∙ closing-record at n xs (omega arith) closes
 
 pub next-block : (at reels blocks : ℕ) (b : Block) (ys : List ℕ) → reels < 9 → blocks < 65535 → SoundBlock b → next at reels blocks (block-bytes b ++ ys) ≡ Ok (Holds (stored-as b))
 next-block at reels blocks (written bytes) ys r l s = next-written at reels blocks bytes ys r l (s .0) (s .1)
@@ -303,8 +303,8 @@ judge-block words reels reel at b ys r l s =
     let xs = block-bytes b ++ ys in
     let rest : drop (size (stored-as b)) xs ≡ ys = drop-at (block-bytes b) ys (size (stored-as b)) (sym (size-of b)) in
     ap (follow (judge words) reels reel at xs) (next-block at (length reels) (length reel) b ys r l s)
-      ∙ ap (λ c. judge words reels (reel ++ c ∷ []) (at + size (stored-as b)) (drop (size (stored-as b)) xs)) (block-of b ys)
-      ∙ ap (judge words reels (reel ++ b ∷ []) (at + size (stored-as b))) rest
+    ∙ ap (λ c. judge words reels (reel ++ c ∷ []) (at + size (stored-as b)) (drop (size (stored-as b)) xs)) (block-of b ys)
+    ∙ ap (judge words reels (reel ++ b ∷ []) (at + size (stored-as b))) rest
 
 judge-end : (words : ℕ) (reels : TapeSet) (reel : Reel) (at : ℕ) (ys : List ℕ) → length reels < 9 → judge (suc words) reels reel at (word 4294967294 ++ ys) ≡ judge words (reels ++ reel ∷ []) [] (at + 4) ys
 judge-end words reels reel at ys r = ap (follow (judge words) reels reel at (word 4294967294 ++ ys)) (next-end at (length reels) (length reel) ys r)
@@ -321,22 +321,22 @@ judge-reads (suc words) reels reel (b ∷ todo) rest at s l r f w =
     let some : 1 ≤ size (stored-as b) = stored-some b in
     let fewer : length ys < words = omega (arith, ap length split, length-append (block-bytes b) ys, size-of b) in
     ap (judge (suc words) reels reel at) split
-      ∙ judge-block words reels reel at b ys (omega arith) (omega arith) (s .0)
-      ∙ judge-reads words reels (reel ++ b ∷ []) todo rest (at + size (stored-as b)) (s .1) grown r f fewer
-      ∙ ap (λ t. Ok (reels ++ t ∷ rest)) (append-assoc reel (b ∷ []) todo)
+    ∙ judge-block words reels reel at b ys (omega arith) (omega arith) (s .0)
+    ∙ judge-reads words reels (reel ++ b ∷ []) todo rest (at + size (stored-as b)) (s .1) grown r f fewer
+    ∙ ap (λ t. Ok (reels ++ t ∷ rest)) (append-assoc reel (b ∷ []) todo)
 judge-reads (suc zero) reels reel [] rest at s l r f w = absurd (omega arith)
 judge-reads (suc (suc words)) reels reel [] [] at s l r f w =
     judge-end (suc words) reels reel at [] (omega arith)
-      ∙ judge-finished words (reels ++ reel ∷ []) (at + 4) (rw length-append (omega arith))
-      ∙ ap (λ t. Ok (reels ++ t ∷ [])) (sym (append-nil reel))
+    ∙ judge-finished words (reels ++ reel ∷ []) (at + 4) (rw length-append (omega arith))
+    ∙ ap (λ t. Ok (reels ++ t ∷ [])) (sym (append-nil reel))
 judge-reads (suc (suc words)) reels reel [] (next-reel ∷ rest) at s l r f w =
     let split : encoded (next-reel ∷ rest) ≡ strip-left next-reel rest = append-assoc (joined block-bytes next-reel) (word 4294967294) (encoded rest) in
     let few : length (reels ++ reel ∷ []) + length rest < 9 = rw length-append (omega arith) in
     let fewer : length (strip-left next-reel rest) < suc words = omega (arith, ap length split) in
     judge-end (suc words) reels reel at (encoded (next-reel ∷ rest)) (omega arith)
-      ∙ ap (judge (suc words) (reels ++ reel ∷ []) [] (at + 4)) split
-      ∙ judge-reads (suc words) (reels ++ reel ∷ []) [] next-reel rest (at + 4) (r .0 .1) (omega (arith, r .0 .0)) (r .1) few fewer
-      ∙ ap Ok (append-assoc reels (reel ∷ []) (next-reel ∷ rest) ∙ ap (λ t. reels ++ t ∷ (next-reel ∷ rest)) (sym (append-nil reel)))
+    ∙ ap (judge (suc words) (reels ++ reel ∷ []) [] (at + 4)) split
+    ∙ judge-reads (suc words) (reels ++ reel ∷ []) [] next-reel rest (at + 4) (r .0 .1) (omega (arith, r .0 .0)) (r .1) few fewer
+    ∙ ap Ok (append-assoc reels (reel ∷ []) (next-reel ∷ rest) ∙ ap (λ t. reels ++ t ∷ (next-reel ∷ rest)) (sym (append-nil reel)))
 
 -- The encoding of a sound set is judged to be that set.
 pub judged-encoded : (set : TapeSet) → Sound set → verdict (encoded set) ≡ Ok set
@@ -345,4 +345,4 @@ judged-encoded (reel ∷ rest) s =
     let split : encoded (reel ∷ rest) ≡ strip-left reel rest = append-assoc (joined block-bytes reel) (word 4294967294) (encoded rest) in
     let enough : length (strip-left reel rest) < length (encoded (reel ∷ rest)) + 1 = omega (arith, ap length split) in
     ap (judge (length (encoded (reel ∷ rest)) + 1) [] [] 0) split
-      ∙ judge-reads (length (encoded (reel ∷ rest)) + 1) [] [] reel rest 0 (s .reels .0 .1) (omega (arith, s .reels .0 .0)) (s .reels .1) (omega (arith, s .few)) enough
+    ∙ judge-reads (length (encoded (reel ∷ rest)) + 1) [] [] reel rest 0 (s .reels .0 .1) (omega (arith, s .reels .0 .0)) (s .reels .1) (omega (arith, s .few)) enough

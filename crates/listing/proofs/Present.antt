@@ -43,10 +43,10 @@ was-refused (Err f) (Err k) e h = refl
 said : (set now : TapeSet) (m last : Option Accepted) (code n room : ℕ) (r : Result ℕ Refusal) → now ≡ set → last ≡ m → room ≡ 5382 → told r ≡ told-delivery (line-answer now last code (n + 1) room) → told r ≡ told-delivery (line-answer set m code (suc n) 5382)
 said set now m last code n room r stays same large e =
     e
-      ∙ ap (λ s. told-delivery (line-answer s last code (n + 1) room)) stays
-      ∙ ap (λ a. told-delivery (line-answer set a code (n + 1) room)) same
-      ∙ ap (λ b. told-delivery (line-answer set m code (n + 1) b)) large
-      ∙ ap (λ k. told-delivery (line-answer set m code k 5382)) (add-one n)
+    ∙ ap (λ s. told-delivery (line-answer s last code (n + 1) room)) stays
+    ∙ ap (λ a. told-delivery (line-answer set a code (n + 1) room)) same
+    ∙ ap (λ b. told-delivery (line-answer set m code (n + 1) b)) large
+    ∙ ap (λ k. told-delivery (line-answer set m code k 5382)) (add-one n)
 
 pub one-more : (set now : TapeSet) (m last : Option Accepted) (code n room count : ℕ) (r : Result ℕ Refusal) → now ≡ set → last ≡ m → room ≡ 5382 → told r ≡ told-delivery (line-answer now last code (n + 1) room) → count ≡ readable set m code n → isOk r ≡ true → count + 1 ≡ readable set m code (n + 1)
 one-more set now m last code n room count r stays same large e so-far ok =
@@ -118,5 +118,5 @@ present-next set m last lines k code text line after r p same e ok l a =
 pub present-all : (set : TapeSet) (m last : Option Accepted) (lines k : ℕ) (text : List ℕ) (r : Result ℕ Refusal) (f : Refusal) → Present set m lines k text → last ≡ m → told r ≡ band-answer last k → r ≡ Err f → text ≡ bands-text set m lines (present m)
 present-all set m last lines k text r f p same e err =
     sym (append-nil text)
-      ∙ ap (λ cs. text ++ bands-text set m lines cs) (sym (behind (present m) (p .at) (no-kth m k (p .at) r f (p .is) (e ∙ ap (λ b. band-answer b k) same) err)))
-      ∙ p .so-far
+    ∙ ap (λ cs. text ++ bands-text set m lines cs) (sym (behind (present m) (p .at) (no-kth m k (p .at) r f (p .is) (e ∙ ap (λ b. band-answer b k) same) err)))
+    ∙ p .so-far

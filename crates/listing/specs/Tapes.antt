@@ -37,11 +37,11 @@ correction-text Uncorrected = chars.codes "CA"
 abbrev pub set-text : Outline → List ℕ
 set-text o =
     chars.codes "SET "
-      ++ (sensor-text (o .sensor)
-      ++ (chars.codes " "
-      ++ (decimal (o .mission)
-      ++ (chars.codes " "
-      ++ (correction-text (o .correction) ++ (chars.codes " " ++ (decimal (o .bands) ++ (chars.codes " " ++ (decimal (o .lines) ++ chars.codes "\n")))))))))
+    ++ (sensor-text (o .sensor)
+    ++ (chars.codes " "
+    ++ (decimal (o .mission)
+    ++ (chars.codes " "
+    ++ (correction-text (o .correction) ++ (chars.codes " " ++ (decimal (o .bands) ++ (chars.codes " " ++ (decimal (o .lines) ++ chars.codes "\n")))))))))
 
 -- A band by its code: a vidicon's by the letter A to D, any other by the number.
 abbrev pub code-text : ℕ → List ℕ

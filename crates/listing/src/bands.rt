@@ -31,7 +31,11 @@ fn readable<D: Deck>(reader: &mut Reader<D>, code: u8, lines: u32) -> u32
 }
 
 // The lines of the bands present.
-pub(crate) fn bands_listing<D: Deck>(heap: Global, reader: &mut Reader<D>, lines: u32) -> Result<String, AllocError>
+pub(crate) fn bands_listing<D: Deck>(
+    heap: Global,
+    reader: &mut Reader<D>,
+    lines: u32,
+) -> Result<String, AllocError>
     requires { ⌜ length (present (now reader .accepted)) ≤ 5 ⌝ }
     ensures { λ r. ⌜ made r (λ t. string-bytes t ≡ bands-text (meaning (now (reader .entry) .deck)) (now (reader .entry) .accepted) lines (present (now (reader .entry) .accepted))) ⌝ }
 {

@@ -19,7 +19,6 @@ mod runs;
 mod tapes;
 
 use runs::reel_listing;
-
 pub use tapes::strip_tape;
 pub use tapes::tape;
 

@@ -57,7 +57,10 @@ pub(crate) fn set_line(heap: Global, outline: Outline) -> Result<String, AllocEr
     let correction = correction_name(outline.correction);
     let bands = outline.bands;
     let lines = outline.lines;
-    format!(heap, "SET {sensor} {mission} {correction} {bands} {lines}\n")
+    format!(
+        heap,
+        "SET {sensor} {mission} {correction} {bands} {lines}\n"
+    )
 }
 
 // The line of a band and how many of its lines can be read.

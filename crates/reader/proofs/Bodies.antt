@@ -21,7 +21,7 @@ module _ (o : Option Block) (scratch : List ℕ) (size : ℕ) (six : 6 ≤ size)
   pub body-is : body-of size o ≡ Ok (drop 6 (r .bytes))
   body-is =
       ap (body-of size) (r .is)
-        ∙ cond-true (eqb (length (r .bytes)) size) (Ok (drop 6 (r .bytes))) (Err 46) (eq-eqb (length (r .bytes)) size (r .long))
+      ∙ cond-true (eqb (length (r .bytes)) size) (Ok (drop 6 (r .bytes))) (Err 46) (eq-eqb (length (r .bytes)) size (r .long))
 
   body-length : length (drop 6 (r .bytes)) ≡ size - 6
   body-length = length-drop 6 (r .bytes) ∙ ap (λ n. n - 6) (r .long)
@@ -33,14 +33,14 @@ module _ (o : Option Block) (scratch : List ℕ) (size : ℕ) (six : 6 ≤ size)
   body-read =
       let six-in : 6 ≤ length (r .bytes) = omega (arith, r .long) in
       ap (λ t. take (size - 6) (drop 6 t)) (r .front)
-        ∙ ap (take (size - 6)) (drop-append-le 6 (r .bytes) (drop size scratch) six-in)
-        ∙ take-at (drop 6 (r .bytes)) (drop size scratch) (size - 6) body-length
+      ∙ ap (take (size - 6)) (drop-append-le 6 (r .bytes) (drop size scratch) six-in)
+      ∙ take-at (drop 6 (r .bytes)) (drop size scratch) (size - 6) body-length
 
   pub body-written : (part buffer : List ℕ) (n : ℕ) → part ≡ take (size - 6) (drop 6 (filled o scratch)) → n ≡ size - 6 → part ++ drop n buffer ≡ buffer-after (body-of size o) buffer
   body-written part buffer n e m =
       ap (λ p. p ++ drop n buffer) (e ∙ body-read)
-        ∙ ap (λ k. drop 6 (r .bytes) ++ drop k buffer) (m ∙ sym body-length)
-        ∙ sym (ap (λ d. buffer-after d buffer) body-is)
+      ∙ ap (λ k. drop 6 (r .bytes) ++ drop k buffer) (m ∙ sym body-length)
+      ∙ sym (ap (λ d. buffer-after d buffer) body-is)
 
 -- At a spot.
 pub at-spot : (set : TapeSet) (p : Option Spot) (s : Spot) (block size : ℕ) → p ≡ Some s → block ≡ s .block → body-at set p size ≡ body-of size (look set (s .reel) block)

@@ -18,12 +18,12 @@ module _ (code : ℕ) (xs : List ℕ) (i : ℕ) where
   pub index-here : i < length xs → getD xs i 0 ≡ code → index-of code (drop i xs) i ≡ Some i
   index-here h e =
       at-drop-more (λ ys. index-of code ys i) xs i 0 h
-        ∙ cond-true (eqb (getD xs i 0) code) (Some i) (index-of code (drop (i + 1) xs) (i + 1)) (eq-eqb (getD xs i 0) code e)
+      ∙ cond-true (eqb (getD xs i 0) code) (Some i) (index-of code (drop (i + 1) xs) (i + 1)) (eq-eqb (getD xs i 0) code e)
 
   pub index-more : i < length xs → (getD xs i 0 ≡ code → ⊥) → index-of code (drop i xs) i ≡ index-of code (drop (i + 1) xs) (i + 1)
   index-more h n =
       at-drop-more (λ ys. index-of code ys i) xs i 0 h
-        ∙ cond-false (eqb (getD xs i 0) code) (Some i) (index-of code (drop (i + 1) xs) (i + 1)) (ne-eqb (getD xs i 0) code n)
+      ∙ cond-false (eqb (getD xs i 0) code) (Some i) (index-of code (drop (i + 1) xs) (i + 1)) (ne-eqb (getD xs i 0) code n)
 
   pub index-none : length xs ≤ i → index-of code (drop i xs) i ≡ None
   index-none h = at-drop-all (λ ys. index-of code ys i) xs i h
@@ -32,9 +32,9 @@ module _ (code : ℕ) (xs : List ℕ) (i : ℕ) where
 pub take-min : (n : ℕ) (xs : List ℕ) → length xs ≡ 5 → take (min n 5) xs ≡ take n xs
 take-min n xs l =
     ⊎-elim
-      (λ (h : n < 5). let e : min n 5 ≡ n = omega arith in ap (λ k. take k xs) e)
-      (λ (h : 5 ≤ n). let e : min n 5 ≡ 5 = omega arith in ap (λ k. take k xs) e ∙ take-all 5 xs (omega arith) ∙ sym (take-all n xs (omega arith)))
-      (cases-lt n 5)
+    (λ (h : n < 5). let e : min n 5 ≡ n = omega arith in ap (λ k. take k xs) e)
+    (λ (h : 5 ≤ n). let e : min n 5 ≡ 5 = omega arith in ap (λ k. take k xs) e ∙ take-all 5 xs (omega arith) ∙ sym (take-all n xs (omega arith)))
+    (cases-lt n 5)
 
 pub within-more : (o : Option ℕ) (m n : ℕ) → m ≤ n → Cases o (Unit {0}) (λ i. i < m) → Cases o (Unit {0}) (λ i. i < n)
 within-more None m n h c = tt
@@ -45,12 +45,12 @@ module _ (k before : ℕ) (xs : List ℕ) (i : ℕ) (h : i < length xs) where
   pub image-here : k ≤ getD xs i 0 → image-on k before (i + 1) (drop i xs) ≡ Some (spot (i + 1) (k - before))
   image-here l =
       at-drop-more (image-on k before (i + 1)) xs i 0 h
-        ∙ cond-true (leb k (getD xs i 0)) (Some (spot (i + 1) (k - before))) (image-on k (getD xs i 0) (i + 1 + 1) (drop (i + 1) xs)) (le-leb k (getD xs i 0) l)
+      ∙ cond-true (leb k (getD xs i 0)) (Some (spot (i + 1) (k - before))) (image-on k (getD xs i 0) (i + 1 + 1) (drop (i + 1) xs)) (le-leb k (getD xs i 0) l)
 
   pub image-more : getD xs i 0 < k → image-on k before (i + 1) (drop i xs) ≡ image-on k (getD xs i 0) (i + 1 + 1) (drop (i + 1) xs)
   image-more l =
       at-drop-more (image-on k before (i + 1)) xs i 0 h
-        ∙ cond-false (leb k (getD xs i 0)) (Some (spot (i + 1) (k - before))) (image-on k (getD xs i 0) (i + 1 + 1) (drop (i + 1) xs)) (lt-leb k (getD xs i 0) l)
+      ∙ cond-false (leb k (getD xs i 0)) (Some (spot (i + 1) (k - before))) (image-on k (getD xs i 0) (i + 1 + 1) (drop (i + 1) xs)) (lt-leb k (getD xs i 0) l)
 
 pub image-none : (k before : ℕ) (xs : List ℕ) (i : ℕ) → length xs ≤ i → image-on k before (i + 1) (drop i xs) ≡ None
 image-none k before xs i h = at-drop-all (image-on k before (i + 1)) xs i h

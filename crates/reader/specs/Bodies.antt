@@ -57,9 +57,9 @@ abbrev pub line-in : TapeSet → Accepted → Option BandFile → ℕ → ℕ �
 line-in set a None n room = Err 42
 line-in set a (Some f) n room =
     cond (leb 1 n && leb n (a .summary .lines))
-      (cond (ltb room (record-length (a .summary .layout .form) - 6)) (Err 45)
-        (body-at set (line-spot f (a .summary .layout) n) (record-length (a .summary .layout .form))))
-      (Err 43)
+    (cond (ltb room (record-length (a .summary .layout .form) - 6)) (Err 45)
+    (body-at set (line-spot f (a .summary .layout) n) (record-length (a .summary .layout .form))))
+    (Err 43)
 
 abbrev pub line-answer : TapeSet → Option Accepted → ℕ → ℕ → ℕ → Delivery
 line-answer set None band n room = Err 41

@@ -65,9 +65,9 @@ line-spot f l n = image-spot (f .group) l (image-on ((n - 1) * f .stride + f .fi
 abbrev pub shelf : Group → Layout → ℕ → Option (Spot × ℕ)
 shelf g l kind =
     cond (eqb kind 1) (Some (spot (g .header .reel) (g .header .block), 1))
-      (cond (eqb kind 2) (Some (spot (g .header .reel) (g .header .block + 1), ancillaries l))
-        (cond (eqb kind 3) (Some (spot (g .header .reel) (g .header .block + 1 + ancillaries l), annotations (l .correction)))
-          (cond (eqb kind 4) (Some (spot (g .trailer .reel) (g .trailer .block), g .trailers)) None)))
+    (cond (eqb kind 2) (Some (spot (g .header .reel) (g .header .block + 1), ancillaries l))
+    (cond (eqb kind 3) (Some (spot (g .header .reel) (g .header .block + 1 + ancillaries l), annotations (l .correction)))
+    (cond (eqb kind 4) (Some (spot (g .trailer .reel) (g .trailer .block), g .trailers)) None)))
 
 -- The sheet of an index, from 1.
 abbrev pub sheet-on : Option (Spot × ℕ) → ℕ → Option Spot

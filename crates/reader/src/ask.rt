@@ -20,7 +20,9 @@ impl<D: Deck> Reader<D> {
             Call::Band(k) => Ok(Answer::Code(self.band(k)?)),
             Call::Ident => Ok(Answer::Delivered(self.ident(buffer)?)),
             Call::Line(band, line) => Ok(Answer::Delivered(self.line(band, line, buffer)?)),
-            Call::Sheet(band, kind, index) => Ok(Answer::Delivered(self.sheet(band, kind, index, buffer)?)),
+            Call::Sheet(band, kind, index) => Ok(Answer::Delivered(
+                self.sheet(band, kind, index, buffer)?,
+            )),
             Call::Tally => Ok(Answer::Tally(self.tally())),
         }
     }

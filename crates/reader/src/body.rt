@@ -9,7 +9,13 @@ use deck::Deck;
 use deck::Kind;
 
 // Puts the body of the record at a spot at the front of the buffer.
-pub(crate) fn body<D: Deck>(deck: &mut D, spot: Option<Spot>, size: usize, scratch: &mut [u8], buffer: &mut [u8]) -> Result<usize, CallerFault>
+pub(crate) fn body<D: Deck>(
+    deck: &mut D,
+    spot: Option<Spot>,
+    size: usize,
+    scratch: &mut [u8],
+    buffer: &mut [u8],
+) -> Result<usize, CallerFault>
     requires large { ⌜ 6 ≤ size ⌝ ∗ ⌜ size ≤ 5388 ⌝ }
     requires room { ⌜ length (now scratch) ≡ 5388 ⌝ ∗ ⌜ size ≤ length (now buffer) + 6 ⌝ }
     ensures stays { λ _. ⌜ meaning (now (deck .exit)) ≡ meaning (now (deck .entry)) ⌝ }

@@ -59,23 +59,25 @@ pub(crate) fn band_file(accepted: &Accepted, code: u8) -> Option<BandFile>
 {
     let place = index_in(codes(&accepted.summary.bands), code)?;
     let layout = accepted.summary.layout;
-    Some(match layout.form {
-        Form::Interleaved => BandFile {
-            group: accepted.places.table[0],
-            stride: layout.stride(),
-            first: (code as u32).saturating_sub(3),
+    Some(
+        match layout.form {
+            Form::Interleaved => BandFile {
+                group: accepted.places.table[0],
+                stride: layout.stride(),
+                first: (code as u32).saturating_sub(3),
+            },
+            Form::Sequential => BandFile {
+                group: accepted.places.table[place],
+                stride: 1,
+                first: 1,
+            },
+            Form::Vidicon => BandFile {
+                group: accepted.places.table[0],
+                stride: 1,
+                first: 1,
+            },
         },
-        Form::Sequential => BandFile {
-            group: accepted.places.table[place],
-            stride: 1,
-            first: 1,
-        },
-        Form::Vidicon => BandFile {
-            group: accepted.places.table[0],
-            stride: 1,
-            first: 1,
-        },
-    })
+    )
 }
 
 // On which reel image block k of a file stands, and which of that reel's image blocks it is.

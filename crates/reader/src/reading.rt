@@ -133,7 +133,13 @@ impl<D: Deck> Reader<D> {
         if buffer.len() < size - 6 {
             return Err(Refusal::Caller(CallerFault::Buffer));
         }
-        match body(&mut self.deck, line_spot(&file, layout, line), size, &mut self.scratch, buffer) {
+        match body(
+            &mut self.deck,
+            line_spot(&file, layout, line),
+            size,
+            &mut self.scratch,
+            buffer,
+        ) {
             Ok(length) => {
                 if self.tally < MOST_TALLIED {
                     self.tally += 1;
@@ -145,7 +151,13 @@ impl<D: Deck> Reader<D> {
     }
 
     // Puts the body of a sheet of a band into a buffer: kind 1 the header, 2 an ancillary, 3 an annotation, 4 a trailer record.
-    pub fn sheet(&mut self, band: u8, kind: u8, index: u32, buffer: &mut [u8]) -> Result<usize, Refusal>
+    pub fn sheet(
+        &mut self,
+        band: u8,
+        kind: u8,
+        index: u32,
+        buffer: &mut [u8],
+    ) -> Result<usize, Refusal>
         ensures stays { λ _. ⌜ meaning (now (self .exit) .deck) ≡ meaning (now (self .entry) .deck) ⌝ }
         ensures says { λ r. ⌜ told r ≡ told-delivery (sheet-answer (meaning (now (self .entry) .deck)) (now (self .entry) .accepted) band kind index (length (now (buffer .entry)))) ⌝ }
         ensures writes { λ _. ⌜ now (buffer .exit) ≡ buffer-after (sheet-answer (meaning (now (self .entry) .deck)) (now (self .entry) .accepted) band kind index (length (now (buffer .entry)))) (now (buffer .entry)) ⌝ }

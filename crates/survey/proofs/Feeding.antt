@@ -28,20 +28,20 @@ module _ (set : TapeSet) (m : Machine) (reel block : ℕ) (r : 1 ≤ reel) (ther
   pub block-there : isSome (look set reel block) ≡ true → block ≤ length (getD set (reel - 1) [])
   block-there e =
       ⊎-elim
-        (λ (h : block - 1 < length (getD set (reel - 1) [])). omega arith)
-        (λ (h : length (getD set (reel - 1) []) ≤ block - 1).
-          let none : look set reel block ≡ None = look-no-block set reel block r b on-reel h in
-          absurd (true≢false (sym e ∙ ap isSome none)))
-        (cases-lt (block - 1) (length (getD set (reel - 1) [])))
+      (λ (h : block - 1 < length (getD set (reel - 1) [])). omega arith)
+      (λ (h : length (getD set (reel - 1) []) ≤ block - 1).
+      let none : look set reel block ≡ None = look-no-block set reel block r b on-reel h in
+      absurd (true≢false (sym e ∙ ap isSome none)))
+      (cases-lt (block - 1) (length (getD set (reel - 1) [])))
 
   off-block : isSome (look set reel block) ≡ false → length (getD set (reel - 1) []) ≤ block - 1
   off-block e =
       ⊎-elim
-        (λ (h : block - 1 < length (getD set (reel - 1) [])).
-          let some : look set reel block ≡ Some (getD (getD set (reel - 1) []) (block - 1) mark) = look-there set reel block r b on-reel h in
-          absurd (false≢true (sym e ∙ ap isSome some)))
-        (λ (h : length (getD set (reel - 1) []) ≤ block - 1). h)
-        (cases-lt (block - 1) (length (getD set (reel - 1) [])))
+      (λ (h : block - 1 < length (getD set (reel - 1) [])).
+      let some : look set reel block ≡ Some (getD (getD set (reel - 1) []) (block - 1) mark) = look-there set reel block r b on-reel h in
+      absurd (false≢true (sym e ∙ ap isSome some)))
+      (λ (h : length (getD set (reel - 1) []) ≤ block - 1). h)
+      (cases-lt (block - 1) (length (getD set (reel - 1) [])))
 
   -- Where there is a block, it is read and the next one follows.
   feed-block : isSome (look set reel block) ≡ true → feed-reel m reel block (from-block set reel block) ≡ then (placed (place-of reel block) (step m (place-of reel block) (look set reel block))) (λ n. feed-reel n reel (block + 1) (from-block set reel (block + 1)))
@@ -51,22 +51,22 @@ module _ (set : TapeSet) (m : Machine) (reel block : ℕ) (r : 1 ≤ reel) (ther
       let some : look set reel block ≡ Some (getD blocks (block - 1) mark) = look-there set reel block r b on-reel here in
       let next : block - 1 + 1 ≡ block + 1 - 1 = omega arith in
       at-drop-more (feed-reel m reel block) blocks (block - 1) mark here
-        ∙ ap (λ k. then (placed (place-of reel block) (step m (place-of reel block) (Some (getD blocks (block - 1) mark)))) (λ n. feed-reel n reel (block + 1) (drop k blocks))) next
-        ∙ ap (λ o. then (placed (place-of reel block) (step m (place-of reel block) o)) (λ n. feed-reel n reel (block + 1) (from-block set reel (block + 1)))) (sym some)
+      ∙ ap (λ k. then (placed (place-of reel block) (step m (place-of reel block) (Some (getD blocks (block - 1) mark)))) (λ n. feed-reel n reel (block + 1) (drop k blocks))) next
+      ∙ ap (λ o. then (placed (place-of reel block) (step m (place-of reel block) o)) (λ n. feed-reel n reel (block + 1) (from-block set reel (block + 1)))) (sym some)
 
   -- Where there is none, the reel is over.
   feed-end : isSome (look set reel block) ≡ false → feed-reel m reel block (from-block set reel block) ≡ placed (place-of reel block) (step m (place-of reel block) (look set reel block))
   feed-end e =
       let none : look set reel block ≡ None = look-no-block set reel block r b on-reel (off-block e) in
       at-drop-all (feed-reel m reel block) (getD set (reel - 1) []) (block - 1) (off-block e)
-        ∙ ap (λ o. placed (place-of reel block) (step m (place-of reel block) o)) (sym none)
+      ∙ ap (λ o. placed (place-of reel block) (step m (place-of reel block) o)) (sym none)
 
   pub feed-fault : (e : Fault) → Err e ≡ placed (place-of reel block) (step m (place-of reel block) (look set reel block)) → Err e ≡ feed-reel m reel block (from-block set reel block)
   feed-fault e h =
       ⊎-elim
-        (λ (t : isSome (look set reel block) ≡ true). ap (λ v. then v (λ n. feed-reel n reel (block + 1) (from-block set reel (block + 1)))) h ∙ sym (feed-block t))
-        (λ (f : isSome (look set reel block) ≡ false). h ∙ sym (feed-end f))
-        (cases-bool (isSome (look set reel block)))
+      (λ (t : isSome (look set reel block) ≡ true). ap (λ v. then v (λ n. feed-reel n reel (block + 1) (from-block set reel (block + 1)))) h ∙ sym (feed-block t))
+      (λ (f : isSome (look set reel block) ≡ false). h ∙ sym (feed-end f))
+      (cases-bool (isSome (look set reel block)))
 
   pub feed-more : (n : Machine) → isSome (look set reel block) ≡ true → Ok n ≡ placed (place-of reel block) (step m (place-of reel block) (look set reel block)) → feed-reel n reel (block + 1) (from-block set reel (block + 1)) ≡ feed-reel m reel block (from-block set reel block)
   feed-more n t h = ap (λ v. then v (λ k. feed-reel k reel (block + 1) (from-block set reel (block + 1)))) h ∙ sym (feed-block t)
@@ -83,7 +83,7 @@ feed-next set m reel r there =
     let here : reel - 1 < length set = omega arith in
     let next : reel - 1 + 1 ≡ reel + 1 - 1 = omega arith in
     at-drop-more (feed m reel) set (reel - 1) [] here
-      ∙ ap (λ k. then (feed-reel m reel 1 (getD set (reel - 1) [])) (λ n. feed n (reel + 1) (drop k set))) next
+    ∙ ap (λ k. then (feed-reel m reel 1 (getD set (reel - 1) [])) (λ n. feed n (reel + 1) (drop k set))) next
 
 pub feed-over : (set : TapeSet) (m : Machine) (reel : ℕ) → length set < reel → feed m reel (from-reel set reel) ≡ Ok m
 feed-over set m reel h = at-drop-all (feed m reel) set (reel - 1) (omega arith)

@@ -35,7 +35,7 @@ shown-record xs buffer kind true e = let z : _≡_ {A = ℕ} 0 1 = cc in absurd 
 shown-record xs buffer kind false e =
     let is : kinds.Record (length xs) ≡ kind = same-kind (kinds.Record (length xs)) kind e in
     subst (λ k. (shown-in k (xs ++ drop (length xs) buffer) ≡ Some (written xs)) × (there k ≡ true)) is
-      (ap (λ t. Some (written t)) (take-at xs (drop (length xs) buffer) (length xs) refl), refl)
+    (ap (λ t. Some (written t)) (take-at xs (drop (length xs) buffer) (length xs) refl), refl)
 
 pub shown-fetched : (o : Option Block) (buffer : List ℕ) (kind : Kind) → fetched o (length buffer) ≡ Ok kind → (shown-in kind (filled o buffer) ≡ o) × (there kind ≡ isSome o)
 shown-fetched None buffer kind e = subst (λ k. (shown-in k buffer ≡ None) × (there k ≡ false)) (same-kind kinds.Absent kind e) (refl, refl)

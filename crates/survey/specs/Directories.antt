@@ -19,8 +19,8 @@ use Rattle.survey.specs.declared.layout.Layout.{Layout}
 abbrev pub form-of : ℕ → ℕ → Option Form
 form-of letter order =
     cond (eqb letter 77)
-      (cond (eqb order 255) (Some Interleaved) (cond (eqb order 0) (Some Sequential) None))
-      (cond (eqb letter 82) (cond (eqb order 0) (Some Vidicon) None) None)
+    (cond (eqb order 255) (Some Interleaved) (cond (eqb order 0) (Some Sequential) None))
+    (cond (eqb letter 82) (cond (eqb order 0) (Some Vidicon) None) None)
 
 -- The mission by its digit, 1 to 3.
 abbrev pub mission-of : ℕ → Option ℕ
@@ -56,13 +56,13 @@ blank xs = eqb (byte xs 21) 32 && (eqb (byte xs 22) 32 && (eqb (byte xs 23) 32 &
 abbrev pub fixed : List ℕ → Layout → ℕ → Bool
 fixed xs l reels =
     eqb (byte xs 7) 76
-      && (eqb (byte xs 10) 67
-      && (eqb (byte xs 19) 49
-      && (eqb (byte xs 20) (48 + reels)
-      && (blank xs
-      && (eqb (byte xs 30) 237
-      && (eqb (byte xs 32) (record-length (l .form) / 256)
-      && eqb (byte xs 33) (record-length (l .form) % 256)))))))
+    && (eqb (byte xs 10) 67
+    && (eqb (byte xs 19) 49
+    && (eqb (byte xs 20) (48 + reels)
+    && (blank xs
+    && (eqb (byte xs 30) 237
+    && (eqb (byte xs 32) (record-length (l .form) / 256)
+    && eqb (byte xs 33) (record-length (l .form) % 256)))))))
 
 -- The layout that a first directory names, where its other values are in order.
 abbrev pub named : List ℕ → ℕ → Option Layout → Option Layout

@@ -26,11 +26,11 @@ interleave-byte Vidicon bands = 0
 abbrev pub counts-fit : List ℕ → Layout → Bool
 counts-fit xs l =
     eqb (byte xs 101) 0
-      && (eqb (byte xs 102) (annotations (l .correction))
-      && (eqb (byte xs 105) 0
-      && (eqb (byte xs 106) (ancillaries l)
-      && (eqb (byte xs 120) (order-byte (l .form))
-      && eqb (byte xs 121) (interleave-byte (l .form) (stride l))))))
+    && (eqb (byte xs 102) (annotations (l .correction))
+    && (eqb (byte xs 105) 0
+    && (eqb (byte xs 106) (ancillaries l)
+    && (eqb (byte xs 120) (order-byte (l .form))
+    && eqb (byte xs 121) (interleave-byte (l .form) (stride l))))))
 
 -- The band in byte 136: ASCII 0 where bands are interleaved; 4 to 7, or 8 for mission 3, and above the last, where they follow each other;
 -- A to D for the vidicon.
@@ -66,14 +66,14 @@ content-of b mask Vidicon = One b
 unfoldable pub header : List ℕ → Layout → ℕ → Result Header ℕ
 header xs l last =
     cond (counts-fit xs l)
-      (cond (band-fits (byte xs 136) l last)
-        (cond (trailers-fit xs)
-          (cond (bands-fit (byte xs 3586) l)
-            (Ok record { content = content-of (byte xs 136) (byte xs 3586) (l .form); trailers = byte xs 145 })
-            (Err 34))
-          (Err 33))
-        (Err 34))
-      (Err 33)
+    (cond (band-fits (byte xs 136) l last)
+    (cond (trailers-fit xs)
+    (cond (bands-fit (byte xs 3586) l)
+    (Ok record { content = content-of (byte xs 136) (byte xs 3586) (l .form); trailers = byte xs 145 })
+    (Err 34))
+    (Err 33))
+    (Err 34))
+    (Err 33)
 
 abbrev pub headed : Result Header SetFault → Result Header ℕ
 headed (Ok h) = Ok h

@@ -48,8 +48,8 @@ grouped m g = record { reels = m .reels; expect = m .expect; directory = m .dire
 abbrev pub closed : Machine → Machine
 closed m =
     cond (ltb (m .groups) 5)
-      record { reels = m .reels; expect = m .expect; directory = m .directory; layout = m .layout; group = m .group; groups = m .groups + 1; table = set (m .table) (m .groups) (m .group); bands = m .bands }
-      m
+    record { reels = m .reels; expect = m .expect; directory = m .directory; layout = m .layout; group = m .group; groups = m .groups + 1; table = set (m .table) (m .groups) (m .group); bands = m .bands }
+    m
 
 abbrev pub banded : Machine → Bands → Machine
 banded m b = record { reels = m .reels; expect = m .expect; directory = m .directory; layout = m .layout; group = m .group; groups = m .groups; table = m .table; bands = b }
@@ -117,8 +117,8 @@ first m on xs (Some l) = Ok (expecting (headed-by m xs l) (expects.DirectoryMark
 abbrev pub later : Machine → Place → Onward → List ℕ → Result Machine ℕ
 later m at on xs =
     cond (same-directory (m .directory) xs)
-      (cond (eqb (byte xs 19) (48 + at .reel)) (Ok (expecting m (expects.DirectoryMark on))) (Err 31))
-      (Err 32)
+    (cond (eqb (byte xs 19) (48 + at .reel)) (Ok (expecting m (expects.DirectoryMark on))) (Err 31))
+    (Err 32)
 
 abbrev pub on-directory : Machine → Place → Onward → List ℕ → Result Machine ℕ
 on-directory m at on xs =
@@ -171,7 +171,7 @@ attributes m = 1 + ancillaries (m .layout) + annotations (m .layout .correction)
 abbrev pub on-attribute : Machine → ℕ → List ℕ → Result Machine ℕ
 on-attribute m n xs =
     passed (checked xs (size m) (cond (leb n (1 + ancillaries (m .layout))) 36 219) n)
-      (Ok (expecting m (cond (ltb n (attributes m)) (expects.Attribute (n + 1)) expects.AttributeMark)))
+    (Ok (expecting m (cond (ltb n (attributes m)) (expects.Attribute (n + 1)) expects.AttributeMark)))
 
 -- Every byte is zero.
 abbrev pub all-zero : List ℕ → Bool
@@ -204,8 +204,8 @@ one-more g reel = record {
 abbrev pub line : Machine → Place → Bool → Result Machine ℕ
 line m at zero =
     cond (leb (most-blocks (m .layout .form) (stride (m .layout))) (m .group .blocks)) (Err 35)
-      (cond (missing (m .group .content) (m .group .blocks) (stride (m .layout)) && not zero) (Err 36)
-        (Ok (expecting (grouped m (one-more (m .group) (at .reel))) expects.Image)))
+    (cond (missing (m .group .content) (m .group .blocks) (stride (m .layout)) && not zero) (Err 36)
+    (Ok (expecting (grouped m (one-more (m .group) (at .reel))) expects.Image)))
 
 abbrev pub on-image : Machine → Place → List ℕ → Result Machine ℕ
 on-image m at xs = passed (checked xs (size m) 237 (m .group .blocks + 1)) (line m at (all-zero (drop 6 xs)))
@@ -232,8 +232,8 @@ behind-trailer m n = cond (ltb n (m .group .trailers)) (expects.Trailer (n + 1))
 abbrev pub trailing : Machine → Place → Result Machine ℕ
 trailing m at =
     cond (lines-agree (m .layout .form) (stride (m .layout)) (m .groups) (getD (m .table) 0 no-group .blocks) (m .group .blocks))
-      (Ok (expecting (grouped m (trailed (m .group) at)) (behind-trailer m 1)))
-      (Err 35)
+    (Ok (expecting (grouped m (trailed (m .group) at)) (behind-trailer m 1)))
+    (Err 35)
 
 abbrev pub on-first-trailer : Machine → Place → List ℕ → Result Machine ℕ
 on-first-trailer m at xs = passed (checked xs (size m) 246 1) (trailing m at)
@@ -258,7 +258,7 @@ goes-on Vidicon m = Err 37
 abbrev pub ends-behind-trailer : Machine → Place → Result Machine ℕ
 ends-behind-trailer m at =
     cond (ltb (at .reel) (m .reels)) (goes-on (m .layout .form) m)
-      (Ok (expecting m (cond (eqb (m .reels) 1) (expects.End onwards.Nothing) expects.LastMark)))
+    (Ok (expecting m (cond (eqb (m .reels) 1) (expects.End onwards.Nothing) expects.LastMark)))
 
 -- Behind the mark of a trailer file a record is the next header, where bands follow each other.
 abbrev pub next-group : Form → Machine → Place → List ℕ → Result Machine ℕ

@@ -82,7 +82,12 @@ fn blank(bytes: &[u8]) -> bool
     requires { ⌜ length (now bytes) ≡ 360 ⌝ }
     ensures { λ r. ⌜ r ≡ blank (now (bytes .entry)) ⌝ }
 {
-    bytes[20] == b' ' && bytes[21] == b' ' && bytes[22] == b' ' && bytes[23] == b' ' && bytes[24] == b' ' && bytes[25] == b' '
+    bytes[20] == b' '
+        && bytes[21] == b' '
+        && bytes[22] == b' '
+        && bytes[23] == b' '
+        && bytes[24] == b' '
+        && bytes[25] == b' '
 }
 
 // The values that a first directory has besides those by which it names its layout.

@@ -45,7 +45,9 @@ fn band_fits(band: u8, layout: Layout, last: u8) -> bool
 {
     match layout.form {
         Form::Interleaved => band == b'0',
-        Form::Sequential => b'4' <= band && (band <= b'7' || band == b'8' && layout.mission == 3) && (last as u32) + 48 < band as u32,
+        Form::Sequential => b'4' <= band
+            && (band <= b'7' || band == b'8' && layout.mission == 3)
+            && (last as u32) + 48 < band as u32,
         Form::Vidicon => b'A' <= band && band <= b'D',
     }
 }

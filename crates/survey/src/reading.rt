@@ -43,7 +43,12 @@ fn there(kind: Kind) -> bool
 }
 
 // Reads one block and hands it to the machine. Says whether there was one.
-fn take<D: Deck>(deck: &mut D, machine: &mut Machine, at: Place, scratch: &mut [u8]) -> Result<bool, TapeFault>
+fn take<D: Deck>(
+    deck: &mut D,
+    machine: &mut Machine,
+    at: Place,
+    scratch: &mut [u8],
+) -> Result<bool, TapeFault>
     requires room { ⌜ length (now scratch) ≡ 5388 ⌝ }
     requires steady { ⌜ Steady (now machine) ⌝ }
     requires on_reel { ⌜ 1 ≤ at .reel ⌝ ∗ ⌜ at .reel ≤ 9 ⌝ }
@@ -66,7 +71,12 @@ fn take<D: Deck>(deck: &mut D, machine: &mut Machine, at: Place, scratch: &mut [
 }
 
 // Reads a reel from its first block to its end.
-fn survey_reel<D: Deck>(deck: &mut D, machine: &mut Machine, reel: u32, scratch: &mut [u8]) -> Result<(), TapeFault>
+fn survey_reel<D: Deck>(
+    deck: &mut D,
+    machine: &mut Machine,
+    reel: u32,
+    scratch: &mut [u8],
+) -> Result<(), TapeFault>
     requires room { ⌜ length (now scratch) ≡ 5388 ⌝ }
     requires steady { ⌜ Steady (now machine) ⌝ }
     requires on_reel { ⌜ 1 ≤ reel ⌝ ∗ ⌜ reel ≤ length (meaning (now deck)) ⌝ }

@@ -8,10 +8,15 @@ use super::fault::RecordFault;
 
 // The types of records, by their sixth byte.
 pub(crate) const DIRECTORY: u8 = 0o011;
+
 pub(crate) const HEADER: u8 = 0o022;
+
 pub(crate) const ANCILLARY: u8 = 0o044;
+
 pub(crate) const ANNOTATION: u8 = 0o333;
+
 pub(crate) const IMAGE: u8 = 0o355;
+
 pub(crate) const TRAILER: u8 = 0o366;
 
 // Whether a record begins with its number.

@@ -111,7 +111,11 @@ impl Machine {
         ensures stays_steady { λ r. ⌜ made r (λ _. Steady (now (self .exit))) ⌝ }
     {
         let ancillaries = self.layout.ancillaries();
-        let kind = if number <= 1 + ancillaries { ANCILLARY } else { ANNOTATION };
+        let kind = if number <= 1 + ancillaries {
+            ANCILLARY
+        } else {
+            ANNOTATION
+        };
         check(bytes, self.layout.form.record_length(), kind, number)?;
         self.expect = if number < 1 + ancillaries + self.layout.annotations() {
             Expect::Attribute(number + 1)

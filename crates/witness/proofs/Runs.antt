@@ -98,11 +98,14 @@ module _ (set was now : TapeSet) (m n : Memory) (calls : List Asked) (a : Asked)
   turn e em er stays says remembers pushed =
       let past = map asked calls in
       let more : map asked (calls ++ a ∷ []) ≡ past ++ asked a ∷ [] = map-push asked calls a in
-      let at : answer was m (a .call) (vec-items (a .buffer)) ≡ answer set (remembered set past) (a .call) (vec-items (a .buffer)) = ap (λ s. answer s m (a .call) (vec-items (a .buffer))) e ∙ ap (λ k. answer set k (a .call) (vec-items (a .buffer))) em in
-      ( stays ∙ e
-      , ( remembers ∙ ap (λ o. o .memory) at ∙ memory-more set past (a .call) (vec-items (a .buffer)) ∙ ap (remembered set) (sym more)
-        , ap (map answered) pushed ∙ map-push answered answers r
-            ∙ ap (λ rs. rs ++ answered r ∷ []) er
-            ∙ ap (λ x. replies set past ++ x ∷ []) (says ∙ ap reply-of at)
-            ∙ sym (replies-more set [] past (asked a))
-            ∙ ap (replies set) (sym more) ) )
+      let at : answer was m (a .call) (vec-items (a .buffer)) ≡ answer set (remembered set past) (a .call) (vec-items (a .buffer)) = ap (λ s. answer s m (a .call) (vec-items (a .buffer))) e ∙ ap (λ k. answer set k (a .call) (vec-items (a .buffer))) em in (
+        stays ∙ e,
+        (
+          remembers ∙ ap (λ o. o .memory) at ∙ memory-more set past (a .call) (vec-items (a .buffer)) ∙ ap (remembered set) (sym more),
+          ap (map answered) pushed ∙ map-push answered answers r
+              ∙ ap (λ rs. rs ++ answered r ∷ []) er
+              ∙ ap (λ x. replies set past ++ x ∷ []) (says ∙ ap reply-of at)
+              ∙ sym (replies-more set [] past (asked a))
+              ∙ ap (replies set) (sym more),
+        ),
+      )

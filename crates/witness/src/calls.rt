@@ -39,7 +39,11 @@ fn ask<D: Deck>(reader: &mut Reader<D>, asked: Asked) -> Answered
 }
 
 // Plays a list of calls to a fresh reader over a deck. Each is answered after those before it.
-pub fn play<D: Deck + Drop>(heap: Global, deck: D, calls: Vec<Asked>) -> Result<Vec<Answered>, AllocError>
+pub fn play<D: Deck + Drop>(
+    heap: Global,
+    deck: D,
+    calls: Vec<Asked>,
+) -> Result<Vec<Answered>, AllocError>
     ensures { λ r. ⌜ made r (λ v. map answered (vec-items v) ≡ replies (meaning deck) (map asked (vec-items calls))) ⌝ }
 {
     let mut reader = Reader::new(deck);

@@ -19,7 +19,7 @@ returns-in-Break-next-word c =
 pub returns-in-Finished : need.returns-in-Finished
 returns-in-Finished c =
     going-finished (c .args .bytes .now) (c .loop-chart .chart) (c .loop-chart .blocks) (c .loop-chart .at) (λ i. omega (arith, c .typed .bytes i)) (c .loop-chart .inv)
-      (sym (c .in-Continue-next-word .ensures tt) ∙ ap Ok (c .in-Finished .is))
+    (sym (c .in-Continue-next-word .ensures tt) ∙ ap Ok (c .in-Finished .is))
 
 pub add-at : need.add-at
 add-at c = omega (arith, going-ends _ _ _ _ (c .loop-chart .inv) (sym (c .in-Continue-next-word .ensures tt) ∙ ap Ok (c .in-ReelEnds .is)) .inside)
@@ -28,7 +28,7 @@ add-at c = omega (arith, going-ends _ _ _ _ (c .loop-chart .inv) (sym (c .in-Con
 ended : (c : need.After-add) → Going (c .args .bytes .now) (with-reel (c .loop-chart .chart) (c .loop-chart .blocks) (c .loop-chart .at + 4)) 0 (c .loop-chart .at + 4)
 ended c =
     going-ends (c .args .bytes .now) (c .loop-chart .chart) (c .loop-chart .blocks) (c .loop-chart .at) (c .loop-chart .inv)
-      (sym (c .in-Continue-next-word .ensures tt) ∙ ap Ok (c .in-ReelEnds .is))
+    (sym (c .in-Continue-next-word .ensures tt) ∙ ap Ok (c .in-ReelEnds .is))
 
 pub loop-chart-less-in-ReelEnds : need.loop-chart-less-in-ReelEnds
 loop-chart-less-in-ReelEnds c = omega (arith, ended c .inside)
@@ -40,7 +40,7 @@ loop-chart-again-in-ReelEnds c = subst (λ t. Going (c .args .bytes .now) t 0 (c
 on-holds : (c : need.After-size-at) → Going (c .args .bytes .now) (c .loop-chart .chart) (c .loop-chart .blocks + 1) (c .loop-chart .at + size (c .in-Holds .block))
 on-holds c =
     going-holds (c .args .bytes .now) (c .loop-chart .chart) (c .loop-chart .blocks) (c .loop-chart .at) (c .in-Holds .block) (c .loop-chart .inv)
-      (sym (c .in-Continue-next-word .ensures tt) ∙ ap Ok (c .in-Holds .is))
+    (sym (c .in-Continue-next-word .ensures tt) ∙ ap Ok (c .in-Holds .is))
 
 pub add-at-in-Holds : need.add-at-in-Holds
 add-at-in-Holds c = omega (arith, on-holds c .inside, c .size-at .ensures)

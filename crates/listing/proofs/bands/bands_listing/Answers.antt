@@ -24,8 +24,7 @@ loop-code-again g c =
     let m = c .args .reader .now .accepted in
     let last = c .loop-code .reader .accepted in
     let code = c .in-Ok .code in
-    let count = counted-now set (g .D·Deck .meaning (c .loop-code .reader .deck)) m last code (c .args .lines) (c .readable .result) (c .loop-code .inv .0) (c .loop-code .inv .1) (c .readable .ensures .value) in
-    (
+    let count = counted-now set (g .D·Deck .meaning (c .loop-code .reader .deck)) m last code (c .args .lines) (c .readable .result) (c .loop-code .inv .0) (c .loop-code .inv .1) (c .readable .ensures .value) in (
       c .readable .ensures .stays ∙ c .loop-code .inv .0,
       c .readable .ensures .remembers ∙ c .loop-code .inv .1,
       present-next set m last (c .args .lines) (c .loop-code .k) code (string-bytes (c .loop-code .text)) (c .as-str .result .now) (string-bytes (c .push-str .last .self)) (c .band .result)
@@ -37,4 +36,4 @@ loop-code-again g c =
 pub returns : need.returns
 returns g c =
     present-all (g .D·Deck .meaning (c .args .reader .now .deck)) (c .args .reader .now .accepted) (c .loop-code .reader .accepted) (c .args .lines) (c .loop-code .k) (string-bytes (c .loop-code .text))
-        (c .band .result) (c .in-rest .field-0) (c .loop-code .inv .2) (c .loop-code .inv .1) (c .band .ensures) (c .in-rest .is)
+    (c .band .result) (c .in-rest .field-0) (c .loop-code .inv .2) (c .loop-code .inv .1) (c .band .ensures) (c .in-rest .is)

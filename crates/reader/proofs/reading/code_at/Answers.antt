@@ -10,9 +10,9 @@ use Rattle.reader.proofs.reading.code_at.Needs as need
 pub returns-then-k-eq0 : need.returns-then-k-eq0
 returns-then-k-eq0 c =
     ⊎-elim
-      (λ e. sym (ap (from-one (c .args .codes .now)) e))
-      (λ h. sym (from-one-is (c .args .codes .now) (c .args .k) (omega (arith, h .1)) ∙ nth-past (c .args .codes .now) (c .args .k - 1) (omega (arith, h .1))))
-      (c .then-k-eq0 .either)
+    (λ e. sym (ap (from-one (c .args .codes .now)) e))
+    (λ h. sym (from-one-is (c .args .codes .now) (c .args .k) (omega (arith, h .1)) ∙ nth-past (c .args .codes .now) (c .args .k - 1) (omega (arith, h .1))))
+    (c .then-k-eq0 .either)
 
 pub returns : need.returns
 returns c =

@@ -21,4 +21,4 @@ returns-then-not-bands-fit c =
 pub returns : need.returns
 returns c =
     ap (λ (k : Content). Ok record { content = k; trailers = getD (c .args .bytes .now) 144 0 }) (c .content-of .ensures)
-      ∙ header-passes (c .args .bytes .now) (c .args .layout) (c .args .last) (c .if-not-counts-fit .ensures tt) (c .if-not-band-fits .ensures tt) (c .if-not-trailers-fit .ensures tt) (c .if-not-bands-fit .ensures tt)
+    ∙ header-passes (c .args .bytes .now) (c .args .layout) (c .args .last) (c .if-not-counts-fit .ensures tt) (c .if-not-band-fits .ensures tt) (c .if-not-trailers-fit .ensures tt) (c .if-not-bands-fit .ensures tt)

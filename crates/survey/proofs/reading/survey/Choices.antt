@@ -10,6 +10,6 @@ Inv-loop-reel g l =
     let meaning = g .D·Deck .meaning in
     let set = meaning (l .entry .deck) in
     (meaning (l .deck) ≡ set)
-      × ((length (l .scratch) ≡ 5388)
-      × (Steady (l .machine)
-      × (feed (l .machine) (l .reel) (from-reel set (l .reel)) ≡ feed (start (length set)) 1 set)))
+    × ((length (l .scratch) ≡ 5388)
+    × (Steady (l .machine)
+    × (feed (l .machine) (l .reel) (from-reel set (l .reel)) ≡ feed (start (length set)) 1 set)))

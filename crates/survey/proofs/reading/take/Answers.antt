@@ -12,8 +12,8 @@ pub unreachable-requires : need.unreachable-requires
 unreachable-requires g c κs =
     let set = g .D·Deck .meaning (c .args .deck .now) in
     never-short (look set (c .args .at .reel) (c .args .at .block)) _ (c .in-rest .field-0)
-      (λ xs e. omega (arith, c .pre .room, look-sound set (c .args .at .reel) (c .args .at .block) xs (g .D·Deck·met .sound (c .args .deck .now) .reels) e .1))
-      (sym (c .in-rest .ensures tt .value))
+    (λ xs e. omega (arith, c .pre .room, look-sound set (c .args .at .reel) (c .args .at .block) xs (g .D·Deck·met .sound (c .args .deck .now) .reels) e .1))
+    (sym (c .in-rest .ensures tt .value))
 
 pub returns-in-Ok-step : need.returns-in-Ok-step
 returns-in-Ok-step g c =

@@ -9,5 +9,5 @@ abbrev pub Inv-loop-call : given.InvT-loop-call
 Inv-loop-call g l =
     let set = g .D·Deck .meaning (l .entry .reader .deck) in
     (g .D·Deck .meaning (l .reader .deck) ≡ set)
-      × ((remembering (l .reader .accepted) (l .reader .tally) ≡ remembered set (map asked (l .yielded)))
-      × (map answered (vec-items (l .answers)) ≡ replies set (map asked (l .yielded))))
+    × ((remembering (l .reader .accepted) (l .reader .tally) ≡ remembered set (map asked (l .yielded)))
+    × (map answered (vec-items (l .answers)) ≡ replies set (map asked (l .yielded))))

@@ -22,7 +22,7 @@ returns-then-block-block-count c =
 entry : (c : need.After-blocks-before) → Listed (c .args .bytes .now) (4 + 4 * c .reel-count-reels .result + 8 * (c .blocks-before .result + (c .args .block - 1))) (c .args .reel) (c .args .block)
 entry c =
     listed-there (c .args .bytes .now) (c .args .reel) (c .args .block) (c .reel-count-reels .result) (c .block-count .result) (c .blocks-before .result)
-      (c .pre) (omega arith) (omega arith) (omega arith) (omega arith) (c .reel-count-reels .ensures) (c .block-count .ensures .counts) (c .blocks-before .ensures)
+    (c .pre) (omega arith) (omega arith) (omega arith) (omega arith) (c .reel-count-reels .ensures) (c .block-count .ensures .counts) (c .blocks-before .ensures)
 
 pub add-entry : need.add-entry
 add-entry c = omega (arith, entry c .whole, c .good .0 .0)
@@ -40,7 +40,7 @@ pub returns : need.returns
 returns c =
     let xs = c .args .bytes .now in
     let e =
-      listed-there xs (c .args .reel) (c .args .block) (c .reel-count-reels .result) (c .block-count .result) (c .blocks-before .result)
-        (c .pre) (omega arith) (omega arith) (omega arith) (omega arith) (c .reel-count-reels .ensures) (c .block-count .ensures .counts) (c .blocks-before .ensures) in
+    listed-there xs (c .args .reel) (c .args .block) (c .reel-count-reels .result) (c .block-count .result) (c .blocks-before .result)
+    (c .pre) (omega arith) (omega arith) (omega arith) (omega arith) (c .reel-count-reels .ensures) (c .block-count .ensures .counts) (c .blocks-before .ensures) in
     let is = c .listed-at .ensures in
     record { finds = ap (seen xs) is ∙ e .finds; shows = ap shown-kind is ∙ e .shows; inside = subst (Inside xs) (sym is) (e .inside) }
