@@ -1,4 +1,4 @@
--- How many bands have been listed.
+-- Readable lines, and how many bands have been listed.
 use mathlib.Core.Path.{_≡_, refl, sym, ap, _∙_}
 use mathlib.Core.Bool.{true, false}
 use mathlib.Core.List.{List, [], _∷_, _++_, append-nil, append-assoc}
