@@ -36,8 +36,9 @@ size (Record n) = n + 8
 size Mark = 4
 size Bad = 4
 
--- The checks of one word, at the place `at` where `xs` are the bytes from there on, behind `reels` whole reels and `blocks` blocks of
--- the next. Each is a refusal's number and place, in the order of the checks.
+-- The checks of one word, from the last to the first: at the place `at`, where `xs` are the bytes from there on, behind `reels` whole reels and
+-- `blocks` blocks of the next. A check that fails is a refusal's number and place.
+
 -- A record's bytes and its closing word fit, and that word is equal.
 abbrev pub check-closed : ℕ → Stored → List ℕ → Verdict Next
 check-closed at (Record n) xs =
@@ -77,7 +78,7 @@ abbrev pub judge : ℕ → TapeSet → Reel → ℕ → List ℕ → Verdict Tap
 judge zero reels reel at xs = Err (1, at)
 judge (suc words) reels reel at xs = follow (judge words) reels reel at xs (next at (length reels) (length reel) xs)
 
--- Each word takes four bytes, so there are enough words.
+-- There are fewer words than bytes, so that so many suffice.
 abbrev pub verdict : List ℕ → Verdict TapeSet
 verdict xs = judge (length xs + 1) [] [] 0 xs
 

@@ -3,7 +3,7 @@ ghost use mathlib.Core.Path.{_≡_};
 ghost use Prim.Native.Nat.{_<_};
 ghost use Rattle.image.specs.Chart.{no-reels, with-reel};
 
-// For each reel where it begins and how many blocks it has. Behind the last reel's beginning stands where the strip ends.
+// For each reel where it begins and how many blocks it has. The start behind that of the last reel is where the strip ends.
 #[derive(Clone, Copy)]
 pub struct Chart {
     pub reels: usize,
@@ -22,7 +22,7 @@ impl Chart {
         }
     }
 
-    // One reel more, which has so many blocks and ends there.
+    // One more reel, which has so many blocks and ends there.
     pub(crate) fn add(&mut self, blocks: u32, end: usize)
         requires { ⌜ now self .reels < 9 ⌝ }
         ensures { λ _. ⌜ now (self .exit) ≡ with-reel (now (self .entry)) blocks end ⌝ }

@@ -46,7 +46,7 @@ band-fits b l last = band-in (l .form) (l .mission) last b
 abbrev pub trailers-fit : List ℕ → Bool
 trailers-fit xs = eqb (byte xs 144) 0 && (leb 1 (byte xs 145) && leb (byte xs 145) 5)
 
--- The bands present in byte 3586, where they are interleaved: one bit for each of 4 to 8, from the bit of 16 down. One is set at least,
+-- The bands present in byte 3586, where they are interleaved: one bit for each of 4 to 8, from the bit of 16 down. At least one is set,
 -- and that of band 8 only for mission 3.
 abbrev pub bands-in : Form → ℕ → ℕ → Bool
 bands-in Interleaved mission mask = ltb 0 mask && (ltb mask 32 && (eqb mission 3 || eqb (mask % 2) 0))
@@ -79,7 +79,7 @@ abbrev pub headed : Result Header SetFault → Result Header ℕ
 headed (Ok h) = Ok h
 headed (Err f) = Err (set-number f)
 
--- A band's digit is not below that of 0.
+-- In a sequential set the band is an ASCII digit, so that taking 48 from it gives the band's number.
 abbrev pub Sequential-band : Form → ℕ → Type 0
 Sequential-band Interleaved b = Unit {0}
 Sequential-band Sequential b = 48 ≤ b

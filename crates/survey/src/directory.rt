@@ -42,7 +42,7 @@ fn correction_of(letter: u8) -> Option<Correction>
     }
 }
 
-// Vidicon pictures came from the third mission alone.
+// A vidicon set is of mission 3.
 fn allowed(form: Form, mission: u8) -> bool
     ensures { λ r. ⌜ r ≡ allowed form mission ⌝ }
 {

@@ -25,9 +25,9 @@ pub enum RecordFault {
 pub enum SetFault {
     // a value of a directory
     Directory,
-    // a later directory that is not the first one
+    // a later directory that differs from the first
     OtherDirectory,
-    // a value of a header, but for its bands
+    // a value of a header other than its bands
     Header,
     // the bands of a header
     Bands,

@@ -39,7 +39,7 @@ fn counts_fit(bytes: &[u8], layout: Layout) -> bool
         && bytes[120] as u32 == interleaved
 }
 
-// The band that the header names, which comes behind the last one.
+// The band that the header names. In a sequential set it is above that of the header before.
 fn band_fits(band: u8, layout: Layout, last: u8) -> bool
     ensures { λ r. ⌜ r ≡ band-fits band layout last ⌝ }
 {
@@ -60,7 +60,7 @@ fn trailers_fit(bytes: &[u8]) -> bool
     bytes[143] == 0 && 1 <= bytes[144] && bytes[144] <= 5
 }
 
-// Of interleaved bands one is present at least, and the fifth only where the mission has it.
+// Of interleaved bands at least one is present, and the fifth only where the mission has it.
 fn bands_fit(mask: u8, layout: Layout) -> bool
     ensures { λ r. ⌜ r ≡ bands-fit mask layout ⌝ }
 {

@@ -63,7 +63,7 @@ impl Machine {
         }
     }
 
-    // One line more, whose body is zero or not.
+    // One more line; `zero` says whether its body is all zero.
     fn line(&mut self, at: Place, zero: bool) -> Result<(), SetFault>
         requires steady { ⌜ Steady (now self) ⌝ }
         requires on_reel { ⌜ 1 ≤ at .reel ⌝ ∗ ⌜ at .reel ≤ 9 ⌝ }

@@ -10,8 +10,8 @@ pub struct Place {
     pub block: u32,
 }
 
-// What stands on a reel behind its directory's mark: a header, or an image file that goes on or has just ended. Nothing stands for a reel that
-// is not there, behind the last.
+// What stands on the next reel behind its directory's mark: a header; or an image file that goes on, or that has just ended. `Nothing`: no reel
+// follows.
 #[derive(Clone, Copy)]
 pub enum Onward {
     Header,
