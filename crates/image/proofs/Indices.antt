@@ -22,7 +22,8 @@ use Rattle.image.specs.Stored.{Verdict, stored, stored-as}
 use Rattle.image.specs.declared.stored.Stored.{Stored}
 use Rattle.image.specs.declared.stored.Stored.the-variants.{Record, Mark, Bad}
 use Rattle.image.proofs.Rows.{and-then-ok, row-length, row-at, row-from}
-use Rattle.image.proofs.Places.{block-sound, reel-sound, stored-word}
+use Rattle.deck.proofs.Looks.{block-sound, reel-sound}
+use Rattle.image.proofs.Places.{stored-word}
 use Rattle.image.proofs.Strips.{past, chosen, word-of, stored-is}
 
 -- A word that is read, and one that is there.

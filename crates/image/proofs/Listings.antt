@@ -18,7 +18,8 @@ use Rattle.image.specs.Indexed.{blocks, first-entry, header, Entry, Encodes, v
 use Rattle.image.specs.Stored.{stored-as}
 use Rattle.image.proofs.Indices.{judged}
 use Rattle.image.proofs.Openings.{is-set}
-use Rattle.image.proofs.Places.{joined-at, block-sound, reel-sound, stored-there, kind-seen}
+use Rattle.deck.proofs.Looks.{block-sound, reel-sound}
+use Rattle.image.proofs.Places.{joined-at, stored-there, kind-seen}
 
 -- An opened image is the image of the set that it means.
 pub opened : (xs : List ℕ) → isOk (verdict xs) ≡ true → Sound (meant xs) × Encodes xs (meant xs)

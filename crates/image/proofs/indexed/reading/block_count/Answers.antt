@@ -2,7 +2,7 @@ use mathlib.Core.Path.{_∙_}
 use native.Mathlib.Omega.{arith}
 use Rattle.image.specs.Indexed.{meant}
 use Rattle.image.proofs.Listings.{opened}
-use Rattle.image.proofs.Places.{reel-sound}
+use Rattle.deck.proofs.Looks.{reel-sound}
 use Rattle.image.proofs.indexed.reading.block_count.Needs as need
 
 pub mul-reel : need.mul-reel
