@@ -21,7 +21,8 @@ pub struct Run<'a> {
     pub calls: Vec<Asked>,
 }
 
-fn run<'a>(heap: Global, image: Image, name: &'a str) -> Run<'a> {
+// A run without calls.
+fn fresh<'a>(heap: Global, image: Image, name: &'a str) -> Run<'a> {
     Run {
         image,
         name,
@@ -76,8 +77,8 @@ pub fn runs<'a>(heap: Global, text: &'a str) -> Result<Vec<Run<'a>>, AnyError> {
         let words: Vec<&'a str> = line.split_whitespace().collect(heap)?;
         match words.as_slice() {
             [] => {}
-            ["strip", name] => runs.push(run(heap, Image::Strip, name))?,
-            ["indexed", name] => runs.push(run(heap, Image::Indexed, name))?,
+            ["strip", name] => runs.push(fresh(heap, Image::Strip, name))?,
+            ["indexed", name] => runs.push(fresh(heap, Image::Indexed, name))?,
             words => {
                 let asked = asked(heap, words)?;
                 let Some(run) = runs.last_mut() else {
