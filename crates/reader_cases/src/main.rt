@@ -26,7 +26,12 @@ fn opened<D>(opened: Result<D, Unopened>) -> Result<D, AnyError> {
 
 // Plays a run over its deck: a line for each call.
 fn answer<D: Deck + Drop>(rt: &LibcRuntime, deck: D, run: Run) -> Result<(), AnyError> {
-    let Run { image: _, name: _, lines, calls } = run;
+    let Run {
+        image: _,
+        name: _,
+        lines,
+        calls,
+    } = run;
     let answers = play(rt.alloc(), deck, calls)?;
     for (line, answered) in lines.iter().zip(answers.iter()) {
         rt.println(answer_line(rt.alloc(), line, answered)?)?;
@@ -37,19 +42,13 @@ fn answer<D: Deck + Drop>(rt: &LibcRuntime, deck: D, run: Run) -> Result<(), Any
 // Opens a run's image and plays the run.
 fn perform(rt: &LibcRuntime, run: Run) -> Result<(), AnyError> {
     let name = run.name;
+    let kind = run.image.word();
+    println!(rt, "{kind} {name}")?;
+    let path = format!(rt.alloc(), "{name}.{kind}")?;
+    let bytes = fs::read(rt, path.as_str())?;
     match run.image {
-        Image::Strip => {
-            println!(rt, "strip {name}")?;
-            let path = format!(rt.alloc(), "{name}.strip")?;
-            let bytes = fs::read(rt, path.as_str())?;
-            answer(rt, opened(Strip::open(bytes))?, run)
-        }
-        Image::Indexed => {
-            println!(rt, "indexed {name}")?;
-            let path = format!(rt.alloc(), "{name}.indexed")?;
-            let bytes = fs::read(rt, path.as_str())?;
-            answer(rt, opened(Indexed::open(bytes))?, run)
-        }
+        Image::Strip => answer(rt, opened(Strip::open(bytes))?, run),
+        Image::Indexed => answer(rt, opened(Indexed::open(bytes))?, run),
     }
 }
 

@@ -1,6 +1,5 @@
 // Scripts. A line `strip NAME` or `indexed NAME` begins a run, and each line below it is one of its calls.
 use reader::Call;
-use std::alloc::AllocError;
 use std::alloc::Global;
 use std::error::AnyError;
 use witness::Asked;
@@ -10,6 +9,16 @@ use witness::Asked;
 pub enum Image {
     Strip,
     Indexed,
+}
+
+impl Image {
+    // The word for it: in a script, and at the end of a file's name.
+    pub fn word(self) -> &'static str {
+        match self {
+            Image::Strip => "strip",
+            Image::Indexed => "indexed",
+        }
+    }
 }
 
 // The calls of a run, in order, and the lines that they are written in.

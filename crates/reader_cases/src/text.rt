@@ -1,4 +1,9 @@
 // The line that is printed of an answer.
+ghost use mathlib.Core.Path.{_≡_};
+ghost use Rattle.std.specs.Of.String.{string-bytes};
+ghost use Rattle.std.specs.Vec.{made};
+ghost use Rattle.reader.specs.Refusals.{told-refusal};
+ghost use Rattle.reader_cases.specs.Texts.{sensor-text, correction-text, summary-text, answer-text, refusal-text};
 use reader::Answer;
 use reader::Outline;
 use reader::Refusal;
@@ -9,7 +14,9 @@ use survey::Sensor;
 use witness::Answered;
 
 // The letter of a sensor, as on tape.
-fn sensor_letter(sensor: Sensor) -> &'static str {
+fn sensor_letter(sensor: Sensor) -> &'static str
+    ensures { λ r. ⌜ now r ≡ sensor-text sensor ⌝ }
+{
     match sensor {
         Sensor::Mss => "M",
         Sensor::Rbv => "R",
@@ -17,7 +24,9 @@ fn sensor_letter(sensor: Sensor) -> &'static str {
 }
 
 // The letters of a correction, as on tape.
-fn correction_letters(correction: Correction) -> &'static str {
+fn correction_letters(correction: Correction) -> &'static str
+    ensures { λ r. ⌜ now r ≡ correction-text correction ⌝ }
+{
     match correction {
         Correction::Corrected => "CP",
         Correction::Uncorrected => "CA",
@@ -25,7 +34,9 @@ fn correction_letters(correction: Correction) -> &'static str {
 }
 
 // A summary: sensor, mission, correction, number of bands, lines.
-fn summary(heap: Global, outline: Outline) -> Result<String, AllocError> {
+fn summary(heap: Global, outline: Outline) -> Result<String, AllocError>
+    ensures { λ r. ⌜ made r (λ t. string-bytes t ≡ summary-text outline) ⌝ }
+{
     let sensor = sensor_letter(outline.sensor);
     let mission = outline.mission;
     let correction = correction_letters(outline.correction);
@@ -34,7 +45,9 @@ fn summary(heap: Global, outline: Outline) -> Result<String, AllocError> {
     format!(heap, "set {sensor} {mission} {correction} {bands} {lines}")
 }
 
-fn answer_text(heap: Global, answer: Answer) -> Result<String, AllocError> {
+fn answer_text(heap: Global, answer: Answer) -> Result<String, AllocError>
+    ensures { λ r. ⌜ made r (λ t. string-bytes t ≡ answer-text answer) ⌝ }
+{
     match answer {
         Answer::Outline(outline) => summary(heap, outline),
         Answer::Code(code) => format!(heap, "code {code}"),
@@ -43,21 +56,26 @@ fn answer_text(heap: Global, answer: Answer) -> Result<String, AllocError> {
     }
 }
 
-// A refusal: number, layer, reel and block. A caller's fault has no place.
-fn refusal_text(heap: Global, refusal: Refusal) -> Result<String, AllocError> {
+// A refusal's number, layer, reel and block. A caller's fault has no place.
+fn told(refusal: Refusal) -> (u32, u32, u32, u32)
+    ensures { λ r. ⌜ r ≡ told-refusal refusal ⌝ }
+{
     match refusal {
-        Refusal::Tape(fault) => {
-            let number = fault.cause.number();
-            let layer = fault.cause.layer();
-            let reel = fault.reel;
-            let block = fault.block;
-            format!(heap, "refused {number} {layer} {reel} {block}")
-        }
-        Refusal::Caller(fault) => {
-            let number = fault.number();
-            format!(heap, "refused {number} 0 0 0")
-        }
+        Refusal::Tape(fault) => (
+            fault.cause.number(),
+            fault.cause.layer(),
+            fault.reel,
+            fault.block,
+        ),
+        Refusal::Caller(fault) => (fault.number(), 0, 0, 0),
     }
+}
+
+fn refusal_text(heap: Global, refusal: Refusal) -> Result<String, AllocError>
+    ensures { λ r. ⌜ made r (λ t. string-bytes t ≡ refusal-text (told-refusal refusal)) ⌝ }
+{
+    let (number, layer, reel, block) = told(refusal);
+    format!(heap, "refused {number} {layer} {reel} {block}")
 }
 
 // The sum of all bytes, each times its place counted from 1, modulo 2^32.
