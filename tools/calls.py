@@ -305,7 +305,7 @@ def answers(script, files):
     out, reader = [], None
     for line in script.splitlines():
         words = line.split()
-        if not words:
+        if not words or words[0] == "#":
             continue
         if words[0] in ("strip", "indexed"):
             stored = files["%s.%s" % (words[1], words[0])]

@@ -79,13 +79,13 @@ fn asked(heap: Global, words: &[&str]) -> Result<Asked, AnyError> {
     }
 }
 
-// The runs of a script. Empty lines are skipped.
+// The runs of a script. Empty lines and lines that begin with `#` are skipped.
 pub fn runs<'a>(heap: Global, text: &'a str) -> Result<Vec<Run<'a>>, AnyError> {
     let mut runs = Vec::new(heap);
     for line in text.lines() {
         let words: Vec<&'a str> = line.split_whitespace().collect(heap)?;
         match words.as_slice() {
-            [] => {}
+            [] | ["#", ..] => {}
             ["strip", name] => runs.push(fresh(heap, Image::Strip, name))?,
             ["indexed", name] => runs.push(fresh(heap, Image::Indexed, name))?,
             words => {
