@@ -73,6 +73,9 @@ def sets():
         "bil8": tape("BIL", 3, "8", 2, [("8", 2)], breaks=[(1, 5)]),
         # nine reels, of which some have one image block
         "bil9": tape("BIL", 1, "4567", 2, all_but("4567", 2, ("5", 2)), breaks=[(1, k) for k in range(1, 9)]),
+        # as many lines as a band may have, and one more; all but one are bad
+        "bilmost": tape("BIL", 1, "4567", 8192, [("7", 8192)]),
+        "bilover": tape("BIL", 1, "4567", 8193),
         # sequential: breaks inside, behind an image file and behind a trailer file
         "bsq3": tape("BSQ", 3, "578", 3, all_but("578", 3, ("5", 2), ("8", 3)),
                      breaks=[(1, 2), (2, 3), (3, 1)], behind=[1], trailers=[1, 5, 2]),
