@@ -1,0 +1,11 @@
+// Fields of single records, read where they stand.
+mod annotation;
+mod fault;
+mod part;
+
+pub use annotation::Annotation;
+pub use annotation::Processing;
+pub use fault::FieldFault;
+pub use fault::FieldFaultDebug;
+pub use fault::FieldFaultPartialEq;
+pub use part::Part;
