@@ -1,6 +1,7 @@
 // Fields of single records, read where they stand.
 mod annotation;
 mod fault;
+mod image;
 mod part;
 
 pub use annotation::Annotation;
@@ -8,4 +9,6 @@ pub use annotation::Processing;
 pub use fault::FieldFault;
 pub use fault::FieldFaultDebug;
 pub use fault::FieldFaultPartialEq;
+pub use image::ImageRecord;
+pub use image::Quality;
 pub use part::Part;
