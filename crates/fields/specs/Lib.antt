@@ -1,3 +1,4 @@
 pub mod Faults
 pub mod Annotations
 pub mod Images
+pub mod Laws

@@ -2,6 +2,7 @@
 mod annotation;
 mod fault;
 mod image;
+mod laws;
 mod part;
 
 pub use annotation::Annotation;
@@ -11,4 +12,5 @@ pub use fault::FieldFaultDebug;
 pub use fault::FieldFaultPartialEq;
 pub use image::ImageRecord;
 pub use image::Quality;
+pub use laws::worked_cases;
 pub use part::Part;
