@@ -2,8 +2,9 @@
 use mathlib.Core.Bool.{Bool, true, false}
 use mathlib.Core.List.{List, [], _∷_, map}
 use mathlib.Core.Path.{_≡_}
-use Prim.Native.Nat.{ℕ, _+_, _-_}
-use lib.IntN.{ℤ, negsuc}
+use Prim.Native.Nat.{ℕ, _+_, _-_, _/_, _%_, _≤_}
+use lib.IntN.{ℤ, pos, negsuc}
+use lib.Signed.{_≤ℤ_}
 use Rattle.std.specs.declared.result.Result.{Result}
 use Rattle.std.specs.declared.result.Result.the-variants.{Ok, Err}
 use Rattle.survey.specs.Layouts.{stride}
@@ -32,3 +33,22 @@ Worked =
     × (_≡_ {A = ℕ × Bool} (lines-in Interleaved (stride third-mission) (6 - 1) + 1, missing (Mixed 16) (6 - 1) (stride third-mission)) (2, false))
     × (first-pixel 6 ≡ Ok 84)
     × (quality-by 56 ≡ Ok Q3)
+
+-- Every count from 0 to 4,095 has exactly one encoding.
+abbrev pub One-count : Type 0
+One-count =
+    (n : ℕ) → n ≤ 4095
+    → (count-by (n / 64) (n % 64) ≡ Ok n)
+    × ((high low : ℕ) → count-by high low ≡ Ok n → (high ≡ n / 64) × (low ≡ n % 64))
+
+-- Every signed number of 16 bits too: the four parts of its two's complement.
+abbrev pub bits : ℤ → ℕ
+bits (pos n) = n
+bits (negsuc n) = 65535 - n
+
+abbrev pub One-signed : Type 0
+One-signed =
+    (z : ℤ) → negsuc 32767 ≤ℤ z → z ≤ℤ pos 32767
+    → (signed-by (bits z / 4096) (bits z / 256 % 16) (bits z / 16 % 16) (bits z % 16) ≡ Ok z)
+    × ((a b c d : ℕ) → signed-by a b c d ≡ Ok z
+       → (a ≡ bits z / 4096) × (b ≡ bits z / 256 % 16) × (c ≡ bits z / 16 % 16) × (d ≡ bits z % 16))

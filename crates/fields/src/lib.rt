@@ -12,5 +12,6 @@ pub use fault::FieldFaultDebug;
 pub use fault::FieldFaultPartialEq;
 pub use image::ImageRecord;
 pub use image::Quality;
+pub use laws::one_encoding;
 pub use laws::worked_cases;
 pub use part::Part;
