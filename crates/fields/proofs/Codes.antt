@@ -32,9 +32,12 @@ count-code : (high low n : ℕ) → low < 64 → high * 64 + low ≡ n → (high
 count-code high low n l e = (omega arith, omega arith)
 
 pub one-count : One-count
-one-count n h = (count-read n h, λ high low e.
-    let y = of-yes (ltb high 64 && ltb low 64) (high * 64 + low) n e in
-    count-code high low n (both-below high low (y .0) .1) (y .1))
+one-count n h = (
+  count-read n h,
+  λ high low e.
+      let y = of-yes (ltb high 64 && ltb low 64) (high * 64 + low) n e in
+      count-code high low n (both-below high low (y .0) .1) (y .1),
+)
 
 all-below : (a b c d : ℕ) → a < 16 → b < 16 → c < 16 → d < 16 → (ltb a 16 && (ltb b 16 && (ltb c 16 && ltb d 16))) ≡ true
 all-below a b c d h i j k = grind (arith, tells)
@@ -82,12 +85,13 @@ sum-below a b c d h i j k = omega arith
 pub one-signed : One-signed
 one-signed z l h =
     let f = signed-bits z l h in
-    let s = small (bits z) (f .0) in
-    (signed-read (bits z / 4096) (bits z / 256 % 16) (bits z / 16 % 16) (bits z % 16) (bits z) (s .0) (s .1) (s .2) (s .3)
-       (joined (bits z) (bits z / 4096) (bits z / 256) (bits z / 16) refl refl refl) ∙ ap Ok (f .1),
-     λ a b c d e.
-       let y = of-yes (ltb a 16 && (ltb b 16 && (ltb c 16 && ltb d 16))) (signed (a * 4096 + b * 256 + c * 16 + d)) z e in
-       let t = below a b c d (y .0) in
-       let m = a * 4096 + b * 256 + c * 16 + d in
-       parts a b c d (bits z) (t .1) (t .2) (t .3)
-         (sym (bits-on (ltb m 32768) m (sum-below a b c d (t .0) (t .1) (t .2) (t .3))) ∙ ap bits (y .1)))
+    let s = small (bits z) (f .0) in (
+      signed-read (bits z / 4096) (bits z / 256 % 16) (bits z / 16 % 16) (bits z % 16) (bits z) (s .0) (s .1) (s .2) (s .3)
+          (joined (bits z) (bits z / 4096) (bits z / 256) (bits z / 16) refl refl refl) ∙ ap Ok (f .1),
+      λ a b c d e.
+          let y = of-yes (ltb a 16 && (ltb b 16 && (ltb c 16 && ltb d 16))) (signed (a * 4096 + b * 256 + c * 16 + d)) z e in
+          let t = below a b c d (y .0) in
+          let m = a * 4096 + b * 256 + c * 16 + d in
+          parts a b c d (bits z) (t .1) (t .2) (t .3)
+          (sym (bits-on (ltb m 32768) m (sum-below a b c d (t .0) (t .1) (t .2) (t .3))) ∙ ap bits (y .1)),
+    )

@@ -51,4 +51,4 @@ One-signed =
     (z : ℤ) → negsuc 32767 ≤ℤ z → z ≤ℤ pos 32767
     → (signed-by (bits z / 4096) (bits z / 256 % 16) (bits z / 16 % 16) (bits z % 16) ≡ Ok z)
     × ((a b c d : ℕ) → signed-by a b c d ≡ Ok z
-       → (a ≡ bits z / 4096) × (b ≡ bits z / 256 % 16) × (c ≡ bits z / 16 % 16) × (d ≡ bits z % 16))
+    → (a ≡ bits z / 4096) × (b ≡ bits z / 256 % 16) × (c ≡ bits z / 16 % 16) × (d ≡ bits z % 16))

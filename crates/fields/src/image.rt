@@ -125,7 +125,12 @@ impl<'a> ImageRecord<'a> {
             return Err(FieldFault::Record);
         }
         let record = self.record;
-        signed_by(record[first - 1], record[first], record[first + 1], record[first + 2])
+        signed_by(
+            record[first - 1],
+            record[first],
+            record[first + 1],
+            record[first + 2],
+        )
     }
 
     // Bytes 3577 to 3580.
