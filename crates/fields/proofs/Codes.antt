@@ -1,6 +1,6 @@
 -- Encodings of counts and signed numbers.
 use mathlib.Core.Bool.{Bool, true, false, cond, _&&_}
-use mathlib.Core.Path.{_≡_, refl, sym, ap, _∙_, subst}
+use mathlib.Core.Path.{_≡_, refl, sym, ap, _∙_}
 use Prim.Native.Nat.{ℕ, _+_, _-_, _*_, _/_, _%_, _≤_, _<_}
 use native.Mathlib.Omega.{arith}
 use lib.Dec.{ltb}
@@ -54,8 +54,8 @@ signed-read a b c d m h i j k e =
     ap (λ t. cond t (Ok (signed (a * 4096 + b * 256 + c * 16 + d))) (Err 47)) (all-below a b c d h i j k) ∙ ap (λ n. Ok (signed n)) e
 
 -- No other four do.
-first-part : (a b c d m : ℕ) → b < 16 → c < 16 → d < 16 → a * 4096 + b * 256 + c * 16 + d ≡ m → (a ≡ m / 4096) × (a * 16 + b ≡ m / 256) × (a * 256 + b * 16 + c ≡ m / 16) × (d ≡ m % 16)
-first-part a b c d m i j k e = (omega arith, omega arith, omega arith, omega arith)
+quotients : (a b c d m : ℕ) → b < 16 → c < 16 → d < 16 → a * 4096 + b * 256 + c * 16 + d ≡ m → (a ≡ m / 4096) × (a * 16 + b ≡ m / 256) × (a * 256 + b * 16 + c ≡ m / 16) × (d ≡ m % 16)
+quotients a b c d m i j k e = (omega arith, omega arith, omega arith, omega arith)
 
 last-of : (a b q : ℕ) → b < 16 → a * 16 + b ≡ q → b ≡ q % 16
 last-of a b q h e = omega arith
@@ -65,7 +65,7 @@ last-of-three a b c r h e = omega arith
 
 parts : (a b c d m : ℕ) → b < 16 → c < 16 → d < 16 → a * 4096 + b * 256 + c * 16 + d ≡ m → (a ≡ m / 4096) × (b ≡ m / 256 % 16) × (c ≡ m / 16 % 16) × (d ≡ m % 16)
 parts a b c d m i j k e =
-    let p = first-part a b c d m i j k e in
+    let p = quotients a b c d m i j k e in
     (p .0, last-of a b (m / 256) i (p .1), last-of-three a b c (m / 16) j (p .2), p .3)
 
 bits-on : (t : Bool) (m : ℕ) → m < 65536 → bits (cond t (pos m) (negsuc (65535 - m))) ≡ m

@@ -1,11 +1,10 @@
--- What the definitions say of some values.
+-- Values that the definitions give, and laws of them.
 use mathlib.Core.Bool.{Bool, true, false}
-use mathlib.Core.List.{List, [], _∷_, map}
+use mathlib.Core.List.{[], _∷_, map}
 use mathlib.Core.Path.{_≡_}
 use Prim.Native.Nat.{ℕ, _+_, _-_, _/_, _%_, _≤_}
 use lib.IntN.{ℤ, pos, negsuc}
 use lib.Signed.{_≤ℤ_}
-use Rattle.std.specs.declared.result.Result.{Result}
 use Rattle.std.specs.declared.result.Result.the-variants.{Ok, Err}
 use Rattle.survey.specs.Layouts.{stride}
 use Rattle.survey.specs.Machines.{present, missing}
@@ -15,7 +14,6 @@ use Rattle.survey.specs.declared.layout.Correction.the-variants.{Uncorrected}
 use Rattle.survey.specs.declared.layout.Form.the-variants.{Interleaved}
 use Rattle.survey.specs.declared.layout.Layout.{Layout}
 use Rattle.fields.specs.Images.{count-by, signed-by, first-pixel, quality-by}
-use Rattle.fields.specs.declared.image.Quality.{Quality}
 use Rattle.fields.specs.declared.image.Quality.the-variants.{Q3}
 
 abbrev pub third-mission : Layout
