@@ -1,0 +1,4 @@
+pub mod Faults
+pub mod Annotations
+pub mod Images
+pub mod Laws
