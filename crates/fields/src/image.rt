@@ -146,6 +146,7 @@ impl<'a> ImageRecord<'a> {
     {
         self.signed_at(3581)
     }
+
     // The pixels of the line, where it is one of a band. They end by byte 3560.
     pub fn pixels(&self, band: u8) -> Result<Part<'a>, FieldFault>
         ensures { λ r. ⌜ told-part r ≡ pixels (now (now (self .entry) .«record»)) band ⌝ }

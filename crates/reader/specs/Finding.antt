@@ -6,7 +6,7 @@ use lib.Dec.{eqb, leb}
 use lib.ListN.{take, getD}
 use Rattle.std.specs.declared.option.Option.{Option}
 use Rattle.std.specs.declared.option.Option.the-variants.{Some, None}
-use Rattle.survey.specs.Layouts.{ancillaries, annotations, stride}
+use Rattle.survey.specs.Layouts.{ancillaries, annotations, attributes, stride}
 use Rattle.survey.specs.Machines.{no-group}
 use Rattle.survey.specs.declared.accepted.Accepted.{Accepted}
 use Rattle.survey.specs.declared.layout.Form.{Form}
@@ -15,10 +15,6 @@ use Rattle.survey.specs.declared.layout.Layout.{Layout}
 use Rattle.survey.specs.declared.machine.Group.{Group}
 use Rattle.reader.specs.declared.places.BandFile.{BandFile}
 use Rattle.reader.specs.declared.places.Spot.{Spot}
-
--- How many records an attributes file has.
-abbrev pub attributes : Layout → ℕ
-attributes l = 1 + ancillaries l + annotations (l .correction)
 
 -- At which place a code stands in a list whose first place is i.
 abbrev pub index-of : ℕ → List ℕ → ℕ → Option ℕ

@@ -3,7 +3,7 @@ ghost use mathlib.Core.Path.{_≡_};
 ghost use Prim.Native.Nat.{_<_, _≤_};
 ghost use lib.ListN.{length, take};
 ghost use Rattle.std.specs.Options.{Cases};
-ghost use Rattle.reader.specs.Finding.{attributes, index-of, band-file, image-on, line-spot, sheet-spot};
+ghost use Rattle.reader.specs.Finding.{index-of, band-file, image-on, line-spot, sheet-spot};
 use survey::Accepted;
 use survey::Bands;
 use survey::Form;
@@ -23,13 +23,6 @@ pub struct BandFile {
     pub group: Group,
     pub stride: u32,
     pub first: u32,
-}
-
-// How many records an attributes file has.
-fn attributes(layout: Layout) -> u32
-    ensures { λ r. ⌜ r ≡ attributes layout ⌝ }
-{
-    1 + layout.ancillaries() + layout.annotations()
 }
 
 // At which place, counted from 0, a code stands among others.
@@ -108,7 +101,7 @@ pub(crate) fn line_spot(file: &BandFile, layout: Layout, line: u32) -> Option<Sp
     let on = image_on(&file.group.through, k)?;
     let header = file.group.header;
     let block = if on.reel == header.reel {
-        header.block as u64 + attributes(layout) as u64 + on.block
+        header.block as u64 + layout.attributes() as u64 + on.block
     } else {
         2 + on.block
     };

@@ -1,6 +1,6 @@
 -- The numbers of a layout.
 use mathlib.Core.Bool.{cond}
-use Prim.Native.Nat.{ℕ}
+use Prim.Native.Nat.{ℕ, _+_}
 use lib.Dec.{eqb}
 use Rattle.survey.specs.declared.layout.Correction.{Correction}
 use Rattle.survey.specs.declared.layout.Correction.the-variants.{Corrected, Uncorrected}
@@ -40,6 +40,10 @@ ancillaries l = ancillaries-of (l .correction) (sensor-in (l .form))
 abbrev pub annotations : Correction → ℕ
 annotations Corrected = 1
 annotations Uncorrected = 2
+
+-- Records of an attributes file: the header and these.
+abbrev pub attributes : Layout → ℕ
+attributes l = 1 + ancillaries l + annotations (l .correction)
 
 -- Bands that the mission's scanner has, present or not.
 abbrev pub stride : Layout → ℕ

@@ -13,7 +13,7 @@ use Rattle.deck.specs.Tape.{Block, written, mark, bad}
 use Rattle.survey.specs.Directories.{first-directory, same-directory}
 use Rattle.survey.specs.Faults.{deck-number, set-number, number}
 use Rattle.survey.specs.Headers.{header}
-use Rattle.survey.specs.Layouts.{record-length, ancillaries, annotations, stride}
+use Rattle.survey.specs.Layouts.{record-length, ancillaries, attributes, stride}
 use Rattle.survey.specs.Records.{byte, checked}
 use Rattle.survey.specs.declared.fault.Cause.{Cause}
 use Rattle.survey.specs.declared.fault.DeckFault.{DeckFault}
@@ -165,13 +165,10 @@ abbrev pub on-header : Machine → Place → List ℕ → Result Machine ℕ
 on-header m at xs = passed (checked xs (size m) 18 1) (begun m at (header xs (m .layout) (band-of (m .group .content))))
 
 -- Ancillary records, then annotation records; all are numbered on from the header.
-abbrev pub attributes : Machine → ℕ
-attributes m = 1 + ancillaries (m .layout) + annotations (m .layout .correction)
-
 abbrev pub on-attribute : Machine → ℕ → List ℕ → Result Machine ℕ
 on-attribute m n xs =
     passed (checked xs (size m) (cond (leb n (1 + ancillaries (m .layout))) 36 219) n)
-    (Ok (expecting m (cond (ltb n (attributes m)) (expects.Attribute (n + 1)) expects.AttributeMark)))
+    (Ok (expecting m (cond (ltb n (attributes (m .layout))) (expects.Attribute (n + 1)) expects.AttributeMark)))
 
 -- Every byte is zero.
 abbrev pub all-zero : List ℕ → Bool

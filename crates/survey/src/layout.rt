@@ -1,6 +1,6 @@
 // What the first directory says of a set: which layout it follows.
 ghost use mathlib.Core.Path.{_≡_};
-ghost use Rattle.survey.specs.Layouts.{sensor-in, record-length, order-byte, ancillaries, annotations, stride};
+ghost use Rattle.survey.specs.Layouts.{sensor-in, record-length, order-byte, ancillaries, annotations, attributes, stride};
 
 // The instrument: the multispectral scanner or the return beam vidicon.
 #[derive(Clone, Copy, PartialEq, Eq, Debug)]
@@ -85,6 +85,13 @@ impl Layout {
             Correction::Corrected => 1,
             Correction::Uncorrected => 2,
         }
+    }
+
+    // How many records an attributes file has: the header and these.
+    pub fn attributes(self) -> u32
+        ensures { λ r. ⌜ r ≡ attributes self ⌝ }
+    {
+        1 + self.ancillaries() + self.annotations()
     }
 
     // How many bands the mission's scanner has, present or not: a set interleaved by line has a record for each.

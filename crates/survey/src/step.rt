@@ -110,14 +110,13 @@ impl Machine {
         ensures says { λ r. ⌜ stepped r (now (self .exit)) ≡ on-attribute (now (self .entry)) number (now (bytes .entry)) ⌝ }
         ensures stays_steady { λ r. ⌜ made r (λ _. Steady (now (self .exit))) ⌝ }
     {
-        let ancillaries = self.layout.ancillaries();
-        let kind = if number <= 1 + ancillaries {
+        let kind = if number <= 1 + self.layout.ancillaries() {
             ANCILLARY
         } else {
             ANNOTATION
         };
         check(bytes, self.layout.form.record_length(), kind, number)?;
-        self.expect = if number < 1 + ancillaries + self.layout.annotations() {
+        self.expect = if number < self.layout.attributes() {
             Expect::Attribute(number + 1)
         } else {
             Expect::AttributeMark
