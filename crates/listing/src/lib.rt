@@ -1,4 +1,6 @@
 // The texts that the programs print.
+#![tactic(auto)]
+
 ghost use Rattle.std.specs.Prelude.{◌≡◌, IfOk, string_bytes};
 ghost use Rattle.image.specs.Stored.{number};
 ghost use Rattle.listing.specs.Blocks.{blocks_text};
