@@ -1,4 +1,6 @@
 // The two stored images of a tape set, each a deck.
+#![tactic(auto)]
+
 mod chart;
 mod cursor;
 mod found;

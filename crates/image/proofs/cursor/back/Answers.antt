@@ -6,21 +6,21 @@ use Rattle.image.proofs.Options.{none_some, some_same}
 use Rattle.image.specs.Places.{stands_behind, size_four}
 use Rattle.image.proofs.cursor.back.Goals as goal
 
-pub overflow-sub-c : goal.overflow-sub-c
-overflow-sub-c c =
-    let o = stands_behind c.args.bytes.now c.args.c c.requires.strip c.requires.stands c.requires.behind-start in
+pub overflow_sub-c : goal.overflow_sub-c
+overflow_sub-c c =
+    let o = stands_behind c.args.bytes.now c.args.c c.requires.strip c.requires.stands c.requires.behind_start in
     omega (arith, o.fits, size_four (get_or (get_or (meant c.args.bytes.now) c.args.c.reel []) (c.args.c.block - 1) mark))
 
 pub unreachable-requires : goal.unreachable-requires
-unreachable-requires c = none_some c.in-default.is c.block-at.ensures (stands_behind c.args.bytes.now c.args.c c.requires.strip c.requires.stands c.requires.behind-start).kind
+unreachable-requires c = none_some c.in_default.is c.block_at.ensures (stands_behind c.args.bytes.now c.args.c c.requires.strip c.requires.stands c.requires.behind_start).kind
 
-pub overflow-sub-result-2 : goal.overflow-sub-result-2
-overflow-sub-result-2 c =
-    let o = stands_behind c.args.bytes.now c.args.c c.requires.strip c.requires.stands c.requires.behind-start in
-    omega (arith, o.fits, ap size (some_same c.in-Some.is c.block-at.ensures o.kind), c.size.ensures)
+pub overflow_sub-result-2 : goal.overflow_sub-result-2
+overflow_sub-result-2 c =
+    let o = stands_behind c.args.bytes.now c.args.c c.requires.strip c.requires.stands c.requires.behind_start in
+    omega (arith, o.fits, ap size (some_same c.in-Some.is c.block_at.ensures o.kind), c.size.ensures)
 
 pub returns : goal.returns
 returns c =
-    let o = stands_behind c.args.bytes.now c.args.c c.requires.strip c.requires.stands c.requires.behind-start in
-    let same = some_same c.in-Some.is c.block-at.ensures o.kind in
-    (subst (λ n. Stands c.args.bytes.now record { reel = c.args.c.reel; block = c.args.c.block - 1; at = c.args.c.at - n }) (ap size same ∙ sym c.size.ensures) o.stands, (refl, omega (arith, c.requires.behind-start)))
+    let o = stands_behind c.args.bytes.now c.args.c c.requires.strip c.requires.stands c.requires.behind_start in
+    let same = some_same c.in-Some.is c.block_at.ensures o.kind in
+    (subst (λ n. Stands c.args.bytes.now record { reel = c.args.c.reel; block = c.args.c.block - 1; at = c.args.c.at - n }) (ap size same ∙ sym c.size.ensures) o.stands, (refl, omega (arith, c.requires.behind_start)))

@@ -8,15 +8,15 @@ use Rattle.image.specs.Strips.{judged_sound}
 use Rattle.image.proofs.cursor.on.Goals as goal
 
 pub unreachable-requires : goal.unreachable-requires
-unreachable-requires c = none_some c.in-default.is c.block-at.ensures (stands_on c.args.bytes.now c.args.c c.requires.strip c.requires.stands c.requires.before-end).kind
+unreachable-requires c = none_some c.in_default.is c.block_at.ensures (stands_on c.args.bytes.now c.args.c c.requires.strip c.requires.stands c.requires.before_end).kind
 
-pub overflow-add-result : goal.overflow-add-result
-overflow-add-result c =
+pub overflow_add-result : goal.overflow_add-result
+overflow_add-result c =
     let xs = c.args.bytes.now in
-    omega (arith, c.requires.before-end, (reel_sound (meant xs) c.args.c.reel (judged_sound xs (meant xs) c.requires.strip.judged).reels).0)
+    omega (arith, c.requires.before_end, (reel_sound (meant xs) c.args.c.reel (judged_sound xs (meant xs) c.requires.strip.judged).reels).0)
 
 pub returns : goal.returns
 returns c =
-    let o = stands_on c.args.bytes.now c.args.c c.requires.strip c.requires.stands c.requires.before-end in
-    let same = some_same c.in-Some.is c.block-at.ensures o.kind in
+    let o = stands_on c.args.bytes.now c.args.c c.requires.strip c.requires.stands c.requires.before_end in
+    let same = some_same c.in-Some.is c.block_at.ensures o.kind in
     (subst (λ n. Stands c.args.bytes.now record { reel = c.args.c.reel; block = c.args.c.block + 1; at = c.args.c.at + n }) (ap size same ∙ sym c.size.ensures) o.stands, (refl, refl))

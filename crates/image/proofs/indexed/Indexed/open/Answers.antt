@@ -10,7 +10,7 @@ use Rattle.image.proofs.indexed.Indexed.open.Goals as goal
 pub returns-in-Ok : goal.returns-in-Ok
 returns-in-Ok c =
     let xs = vec_items c.args.bytes in
-    let v = and_then_ok (verdict xs) (λ _. Ok tt) tt (ap (λ ys. passed (verdict ys)) (sym c.as-slice.ensures.value) ∙ sym c.in-Ok.ensures) in
+    let v = and_then_ok (verdict xs) (λ _. Ok tt) tt (ap (λ ys. passed (verdict ys)) (sym c.as_slice.ensures.value) ∙ sym c.in-Ok.ensures) in
     let is : verdict xs ≡ Ok (meant xs) = is_set (verdict xs) (ap is_ok v.1) in
     record { says = sym is; keeps = refl; exactly = subst (Exactly (Encodes xs)) is (exactly_judged xs) }
 
@@ -18,5 +18,5 @@ pub returns-in-Err : goal.returns-in-Err
 returns-in-Err c =
     let xs = vec_items c.args.bytes in
     let e : ℕ × ℕ = (number c.in-Err.refusal.cause, c.in-Err.refusal.offset) in
-    let is : verdict xs ≡ Err e = passed_err (verdict xs) e (ap (λ ys. passed (verdict ys)) (sym c.as-slice.ensures.value) ∙ sym c.in-Err.ensures) in
+    let is : verdict xs ≡ Err e = passed_err (verdict xs) e (ap (λ ys. passed (verdict ys)) (sym c.as_slice.ensures.value) ∙ sym c.in-Err.ensures) in
     record { says = sym is; keeps = refl; exactly = subst (Exactly (Encodes xs)) is (exactly_judged xs) }

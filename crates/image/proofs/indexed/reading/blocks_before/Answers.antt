@@ -5,8 +5,8 @@ use Rattle.image.specs.Listings.{opened}
 use Rattle.image.specs.Places.{joined_length}
 use Rattle.image.proofs.indexed.reading.blocks_before.Goals as goal
 
-pub overflow-add-before : goal.overflow-add-before
-overflow-add-before c = omega (arith, c.loop-i.invariant.1, c.requires.there, (opened c.args.bytes.now c.requires.image).0.few, c.block_count.ensures.few)
+pub overflow_add-before : goal.overflow_add-before
+overflow_add-before c = omega (arith, c.loop-i.invariant.1, c.requires.there, (opened c.args.bytes.now c.requires.image).0.few, c.block_count.ensures.few)
 
 pub loop-i-preserved : goal.loop-i-preserved
 loop-i-preserved c =

@@ -28,14 +28,14 @@ returns c =
     let set = strip_set s in
     let there : c.args.reel - 1 < length set = omega (arith, s.many) in
     let fits : c.args.block ≤ length (get_or set (c.args.reel - 1) []) = omega (arith, s.counts (c.args.reel - 1) there) in
-    let stands = subst (λ ys. Stands ys c.wind-there.result) c.as-slice.ensures.value c.wind-there.ensures.0 in
+    let stands = subst (λ ys. Stands ys c.wind-there.result) c.as_slice.ensures.value c.wind-there.ensures.0 in
     let reel : c.wind-there.result.reel ≡ c.args.reel - 1 = c.wind-there.ensures.1.0 ∙ c.near-from.ensures.1 in
     let f = found_there xs c.wind-there.result c.args.reel c.args.block record { judged = is_set (verdict xs) s.judged; spells = s.spells } stands (omega arith) (omega arith) reel c.wind-there.ensures.1.1 fits in
-    let is = c.found-at.ensures ∙ ap (λ ys. found_at ys c.wind-there.result.at) c.as-slice-2.ensures.value in
+    let is = c.found_at.ensures ∙ ap (λ ys. found_at ys c.wind-there.result.at) c.as_slice-2.ensures.value in
     let inside = subst (Inside xs) (sym is) f.1 in
     record {
       stays = refl;
       finds = ap (seen xs) is ∙ f.0;
-      shows = kind_seen xs c.found-at.result inside ∙ ap kind_of (ap (seen xs) is ∙ f.0);
+      shows = kind_seen xs c.found_at.result inside ∙ ap kind_of (ap (seen xs) is ∙ f.0);
       inside = inside;
     }
