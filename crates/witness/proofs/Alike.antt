@@ -1,6 +1,6 @@
 -- Lists of copies, and of answers that are compared one by one.
-use Rattle.std.proofs.Common.{◌≡◌, ℕ, suc, Bool, true, false, ◌⊎◌, List, [], ◌∷◌, map, length, Decides, sym, refl, ap, inl, inr, true≢false, arith}
-use Rattle.std.specs.Cmp.Lexicographic.{Same, Apart, Matches}
+use Rattle.std.proofs.Common.{◌≡◌, ℕ, suc, Bool, true, false, ◌&&◌, List, [], ◌∷◌, map, Decides, sym, refl, ap, true≢false, arith}
+use Rattle.std.specs.Cmp.Lexicographic.{pointwise}
 use Rattle.std.specs.List.{AllZip}
 
 cons : {Y : Type 0} {x y : Y} {xs ys : List Y} → x ≡ y → xs ≡ ys → x ∷ xs ≡ y ∷ ys
@@ -19,30 +19,14 @@ copied f same [] (y ∷ ys) e = absurd e
 copied f same (x ∷ xs) [] e = absurd e
 copied f same (x ∷ xs) (y ∷ ys) e = cons (same x y e.0) (copied f same xs ys e.1)
 
+pub both : (a b : Bool) {P Q R : Type 0} → Decides a P → Decides b Q → (P → Q → R) → (R → P) → (R → Q) → Decides (a && b) R
+both true true p q r one other = (λ _. r (p.0 refl) (q.0 refl), λ _. refl)
+both true false p q r one other = (λ t. absurd (true≢false (sym t)), λ h. absurd (true≢false (sym (q.1 (other h)))))
+both false b p q r one other = (λ t. absurd (true≢false (sym t)), λ h. absurd (true≢false (sym (p.1 (one h)))))
+
 -- Where the comparison of elements decides whether they mean the same, so does that of lists.
-module _ {X Y : Type 0} (f : X → Y) where
-  abbrev Like : X → X → Bool → Type 0
-  Like x y r = Decides r (f x ≡ f y)
-
-  all_like : (xs ys : List X) → Same Like xs ys → map f xs ≡ map f ys
-  all_like [] [] h = refl
-  all_like [] (y ∷ ys) h = absurd h
-  all_like (x ∷ xs) [] h = absurd h
-  all_like (x ∷ xs) (y ∷ ys) h = cons (h.0.0 refl) (all_like xs ys h.1)
-
-  one_unlike : (xs ys : List X) → Apart Like xs ys → map f xs ≡ map f ys → ⊥
-  one_unlike [] ys h e = h
-  one_unlike (x ∷ xs) [] h e = h
-  one_unlike (x ∷ xs) (y ∷ ys) (inl h) e = true≢false (sym (h.1 (head_of e)))
-  one_unlike (x ∷ xs) (y ∷ ys) (inr h) e = one_unlike xs ys h (tail_of e)
-
-  as_long : (xs ys : List X) → map f xs ≡ map f ys → length xs ≡ length ys
-  as_long [] [] e = refl
-  as_long [] (y ∷ ys) e = let z : ◌≡◌ {A = ℕ} 0 1 = cc in absurd (omega arith)
-  as_long (x ∷ xs) [] e = let z : ◌≡◌ {A = ℕ} 0 1 = cc in absurd (omega arith)
-  as_long (x ∷ xs) (y ∷ ys) e = ap suc (as_long xs ys (tail_of e))
-
-  pub all_decided : (xs ys : List X) (r : Bool) → Matches Like xs ys r → Decides r (map f xs ≡ map f ys)
-  all_decided xs ys true h = (λ _. all_like xs ys h.1, λ _. refl)
-  all_decided xs ys false (inl n) = (λ t. absurd (true≢false (sym t)), λ e. absurd (n (as_long xs ys e)))
-  all_decided xs ys false (inr h) = (λ t. absurd (true≢false (sym t)), λ e. absurd (one_unlike xs ys h e))
+pub all_decided : {X Y : Type 0} (f : X → Y) (E : X → X → Bool) → ((x y : X) → Decides (E x y) (f x ≡ f y)) → (xs ys : List X) → Decides (pointwise E xs ys) (map f xs ≡ map f ys)
+all_decided f E d [] [] = (λ _. refl, λ _. refl)
+all_decided f E d [] (y ∷ ys) = (λ t. absurd (true≢false (sym t)), λ e. let z : ◌≡◌ {A = ℕ} 0 1 = cc in absurd (omega arith))
+all_decided f E d (x ∷ xs) [] = (λ t. absurd (true≢false (sym t)), λ e. let z : ◌≡◌ {A = ℕ} 0 1 = cc in absurd (omega arith))
+all_decided f E d (x ∷ xs) (y ∷ ys) = both (E x y) (pointwise E xs ys) (d x y) (all_decided f E d xs ys) cons head_of tail_of

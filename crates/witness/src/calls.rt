@@ -1,10 +1,9 @@
 // Lists of calls, played to a fresh reader.
-ghost use Rattle.std.specs.Prelude.{◌≡◌, map, IfOk, Decides};
+ghost use Rattle.std.specs.Prelude.{◌≡◌, map, IfOk};
 ghost use Rattle.reader.specs.Answers.{answer, remembering};
+ghost use Rattle.witness.specs.Comparing.{same_answered, compares};
 ghost use Rattle.witness.specs.Pictured.{Shown};
 ghost use Rattle.witness.specs.Replies.{asked, answered, reply_of, replies};
-ghost use Rattle.std.specs.Cmp.Rules.{comparing};
-ghost use Rattle.std.proofs.Common.{rules};
 
 use deck::Deck;
 use reader::{Answer, Call, Reader, Refusal};
@@ -26,9 +25,9 @@ pub struct Answered {
 
 // Answers are equal where all that they say is, and every byte of the buffers.
 impl PartialEq for Answered {
-    ghost equals = { λ x y r. Decides r (answered x ≡ answered y) };
+    ghost eq = { same_answered };
 
-    ghost laws = { Prim.search (comparing, rules) };
+    ghost laws = { compares };
 
     fn eq(&self, other: &Answered) -> bool {
         self.answer == other.answer && self.buffer == other.buffer

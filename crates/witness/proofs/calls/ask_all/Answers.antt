@@ -11,4 +11,4 @@ loop-call-preserved g c =
     (remembering c.loop-call.reader.accepted c.loop-call.reader.tally) (remembering c.ask.new.reader.accepted c.ask.new.reader.tally)
     c.loop-call.yielded c.in-Some.call (vec_items c.loop-call.answers) (vec_items c.push.new.self) c.ask.result
     inv.0 inv.1.0 inv.1.1 c.ask.ensures.stays c.ask.ensures.says c.ask.ensures.remembers
-    (pushed (c.ask.result ∷ []) refl c.in-ok-push.was c.push.ensures.items)
+    (pushed (c.ask.result ∷ []) refl c.in_ok-push.was c.push.ensures.items)

@@ -8,6 +8,6 @@ use Rattle.witness.proofs.twin.copies.Goals as goal
 
 pub returns : goal.returns
 returns c =
-    IfOk-weaker c.from-clones.result _ _
-    (λ v e. copied asked (λ x y h. pair h.0 (each_same (vec_items x.buffer) (vec_items y.buffer) h.1.0)) c.args.calls.now (vec_items v) e.0)
-    c.from-clones.ensures.made
+    IfOk-weaker c.from_clones.result _ _
+    (λ v e. copied asked (λ x y h. pair h.0 (each_same (vec_items x.buffer) (vec_items y.buffer) h.1.0)) c.args.calls.now (vec_items v) e)
+    c.from_clones.ensures.items

@@ -1,0 +1,133 @@
+-- Two answers are equal exactly where all that they say is, and their buffers are, byte by byte.
+use Rattle.std.proofs.Common.{◌≡◌, ℕ, ◌+◌, ◌==◌, Bool, true, false, ◌&&◌, Ok, Err, Result, Decides, sym, refl, ap, ◌∙◌, true≢false, vec_items, arith}
+use Rattle.std.specs.Cmp.Lexicographic.{pointwise}
+use Rattle.std.proofs.lemmas.Bool.Decides.{Decides-eqb}
+use Rattle.std.proofs.lemmas.Slice.Eq.{slice_eq-Decides}
+use denote.Enum.Bare.{sameb}
+use denote.Enum.Declared.{Declared, tag_of}
+use Rattle.records.specs.Faults.{deck_number, record_number, set_number, number, layer}
+use Rattle.records.specs.contracts.fault.CausePartialEq.TheImpl as causes_eq
+use Rattle.records.specs.contracts.fault.DeckFault.{the_type as deck_faults}
+use Rattle.records.specs.contracts.fault.DeckFaultPartialEq.TheImpl as decks_eq
+use Rattle.records.specs.contracts.fault.RecordFault.{the_type as record_faults}
+use Rattle.records.specs.contracts.fault.RecordFaultPartialEq.TheImpl as records_eq
+use Rattle.records.specs.contracts.fault.SetFault.{the_type as set_faults}
+use Rattle.records.specs.contracts.fault.SetFaultPartialEq.TheImpl as sets_eq
+use Rattle.records.specs.contracts.layout.Correction.{the_type as corrections}
+use Rattle.records.specs.contracts.layout.CorrectionPartialEq.TheImpl as corrections_eq
+use Rattle.records.specs.contracts.layout.Sensor.{the_type as sensors}
+use Rattle.records.specs.contracts.layout.SensorPartialEq.TheImpl as sensors_eq
+use Rattle.records.specs.declared.fault.Cause.{Cause}
+use Rattle.records.specs.declared.fault.Cause.TheVariants.{Deck, Record, Set}
+use Rattle.records.specs.declared.fault.DeckFault.{DeckFault}
+use Rattle.records.specs.declared.fault.DeckFault.TheVariants as decks
+use Rattle.records.specs.declared.fault.RecordFault.{RecordFault}
+use Rattle.records.specs.declared.fault.RecordFault.TheVariants as records
+use Rattle.records.specs.declared.fault.SetFault.{SetFault}
+use Rattle.records.specs.declared.fault.SetFault.TheVariants as sets
+use Rattle.records.specs.declared.layout.Correction.{Correction}
+use Rattle.records.specs.declared.layout.Correction.TheVariants.{Corrected, Uncorrected}
+use Rattle.records.specs.declared.layout.Sensor.{Sensor}
+use Rattle.records.specs.declared.layout.Sensor.TheVariants.{Mss, Rbv}
+use Rattle.survey.specs.Surveys.{Fault, told_fault}
+use Rattle.survey.specs.contracts.fault.TapeFaultPartialEq.TheImpl as faults_eq
+use Rattle.survey.specs.declared.fault.TapeFault.{TapeFault}
+use Rattle.reader.specs.Answers.{Told, summary, sensor_letter, correction_letter, code, delivered, counted, refused, outlined, told_answer}
+use Rattle.reader.specs.Refusals.{caller_number, told_refusal}
+use Rattle.reader.specs.contracts.call.AnswerPartialEq.TheImpl as answers_eq
+use Rattle.reader.specs.contracts.call.OutlinePartialEq.TheImpl as outlines_eq
+use Rattle.reader.specs.contracts.refusal.CallerFault.{the_type as caller_faults}
+use Rattle.reader.specs.contracts.refusal.CallerFaultPartialEq.TheImpl as callers_eq
+use Rattle.reader.specs.contracts.refusal.RefusalPartialEq.TheImpl as refusals_eq
+use Rattle.reader.specs.declared.call.Answer.{Answer}
+use Rattle.reader.specs.declared.call.Answer.TheVariants as answers
+use Rattle.reader.specs.declared.call.Outline.{Outline}
+use Rattle.reader.specs.declared.refusal.CallerFault.{CallerFault}
+use Rattle.reader.specs.declared.refusal.CallerFault.TheVariants as callers
+use Rattle.reader.specs.declared.refusal.Refusal.{Refusal}
+use Rattle.reader.specs.declared.refusal.Refusal.TheVariants.{Tape, Caller}
+use Rattle.witness.specs.Comparing.{same_answer, same_answered}
+use Rattle.witness.specs.Replies.{answered}
+use Rattle.witness.specs.declared.calls.Answered.{Answered}
+use Rattle.witness.proofs.Alike.{both}
+use Rattle.witness.proofs.Runs.{pair}
+
+-- Variants whose numbers rise by some step, in their order.
+module _ (D : Declared) (num : D.D → ℕ) (first : ℕ) (numbered : (x : D.D) → num x ≡ tag_of D x + first) where
+  bare : (x y : D.D) → Decides (sameb D x y) (num x ≡ num y)
+  bare x y =
+      let d = Decides-eqb (tag_of D x) (tag_of D y) in
+      (λ t. numbered x ∙ ap (λ n. n + first) (d.0 t) ∙ sym (numbered y), λ h. d.1 (let a = numbered x in let b = numbered y in omega (arith, a, b, h)))
+
+deck_numbered : (z : DeckFault) → deck_number z ≡ tag_of deck_faults z + 11
+deck_numbered decks.Absent = refl
+deck_numbered decks.Bad = refl
+
+record_numbered : (z : RecordFault) → record_number z ≡ tag_of record_faults z + 21
+record_numbered records.MarkForRecord = refl
+record_numbered records.RecordForMark = refl
+record_numbered records.Length = refl
+record_numbered records.FifthByte = refl
+record_numbered records.Type = refl
+record_numbered records.Number = refl
+
+set_numbered : (z : SetFault) → set_number z ≡ tag_of set_faults z + 31
+set_numbered sets.Directory = refl
+set_numbered sets.OtherDirectory = refl
+set_numbered sets.Header = refl
+set_numbered sets.Bands = refl
+set_numbered sets.Lines = refl
+set_numbered sets.MissingBand = refl
+set_numbered sets.Finish = refl
+set_numbered sets.BehindEnd = refl
+
+caller_numbered : (z : CallerFault) → caller_number z ≡ tag_of caller_faults z + 41
+caller_numbered callers.NotAccepted = refl
+caller_numbered callers.Band = refl
+caller_numbered callers.Line = refl
+caller_numbered callers.Sheet = refl
+caller_numbered callers.Buffer = refl
+caller_numbered callers.Unreadable = refl
+
+never : {P : Type 0} → (P → ⊥) → Decides false P
+never n = (λ t. absurd (true≢false (sym t)), λ p. absurd (n p))
+
+by_equal : {r : Bool} {P Q : Type 0} → Decides r P → (P → Q) → (Q → P) → Decides r Q
+by_equal d to from = (λ t. to (d.0 t), λ q. d.1 (from q))
+
+-- A cause says its number and its layer.
+abbrev Said : Cause → ℕ × ℕ
+Said c = (number c, layer c)
+
+cause_decides : (x y : Cause) → Decides ((causes_eq.ghosts).eq x y) (Said x ≡ Said y)
+cause_decides (Deck x) (Deck y) = by_equal (bare deck_faults deck_number 11 deck_numbered x y) (λ e. ap (λ n. (n, 1)) e) (λ e. ap (λ p. p.0) e)
+cause_decides (Deck x) (Record y) = never (λ e. let z : ◌≡◌ {A = ℕ} 1 2 = ap (λ p. p.1) e in omega arith)
+cause_decides (Deck x) (Set y) = never (λ e. let z : ◌≡◌ {A = ℕ} 1 3 = ap (λ p. p.1) e in omega arith)
+cause_decides (Record x) (Deck y) = never (λ e. let z : ◌≡◌ {A = ℕ} 2 1 = ap (λ p. p.1) e in omega arith)
+cause_decides (Record x) (Record y) = by_equal (bare record_faults record_number 21 record_numbered x y) (λ e. ap (λ n. (n, 2)) e) (λ e. ap (λ p. p.0) e)
+cause_decides (Record x) (Set y) = never (λ e. let z : ◌≡◌ {A = ℕ} 2 3 = ap (λ p. p.1) e in omega arith)
+cause_decides (Set x) (Deck y) = never (λ e. let z : ◌≡◌ {A = ℕ} 3 1 = ap (λ p. p.1) e in omega arith)
+cause_decides (Set x) (Record y) = never (λ e. let z : ◌≡◌ {A = ℕ} 3 2 = ap (λ p. p.1) e in omega arith)
+cause_decides (Set x) (Set y) = by_equal (bare set_faults set_number 31 set_numbered x y) (λ e. ap (λ n. (n, 3)) e) (λ e. ap (λ p. p.0) e)
+
+four : (a b c d a' b' c' d' : ℕ) → (a, b) ≡ (a', b') → c ≡ c' → d ≡ d' → ◌≡◌ {A = Fault} (a, b, c, d) (a', b', c', d')
+four a b c d a' b' c' d' p q r = cc
+
+fault_decides : (x y : TapeFault) → Decides ((faults_eq.ghosts).eq x y) (told_fault x ≡ told_fault y)
+fault_decides x y =
+    both ((causes_eq.ghosts).eq x.cause y.cause) (x.reel == y.reel && x.block == y.block) (cause_decides x.cause y.cause)
+    (both (x.reel == y.reel) (x.block == y.block) (Decides-eqb x.reel y.reel) (Decides-eqb x.block y.block) pair (λ e. ap (λ p. p.0) e) (λ e. ap (λ p. p.1) e))
+    (λ p q. four (number x.cause) (layer x.cause) x.reel x.block (number y.cause) (layer y.cause) y.reel y.block p (ap (λ w. w.0) q) (ap (λ w. w.1) q))
+    (λ e. pair (ap (λ (w : Fault). w.0) e) (ap (λ (w : Fault). w.1) e))
+    (λ e. pair (ap (λ (w : Fault). w.2) e) (ap (λ (w : Fault). w.3) e))
+
+layer_some : (c : Cause) → layer c ≡ 0 → ⊥
+layer_some (Deck f) e = omega (arith, e)
+layer_some (Record f) e = omega (arith, e)
+layer_some (Set f) e = omega (arith, e)
+
+refusal_decides : (x y : Refusal) → Decides ((refusals_eq.ghosts).eq x y) (told_refusal x ≡ told_refusal y)
+refusal_decides (Tape x) (Tape y) = fault_decides x y
+refusal_decides (Tape x) (Caller y) = never (λ e. layer_some x.cause (ap (λ (w : Fault). w.1) e))
+refusal_decides (Caller x) (Tape y) = never (λ e. layer_some y.cause (sym (ap (λ (w : Fault). w.1) e)))
+refusal_decides (Caller x) (Caller y) = by_equal (bare caller_faults caller_number 41 caller_numbered x y) (λ e. ap (λ n. (n, 0, 0, 0)) e) (λ e. ap (λ (w : Fault). w.0) e)

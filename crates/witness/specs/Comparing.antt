@@ -1,0 +1,47 @@
+-- What `==` says of two answers: whether they are the same answer, and leave the same bytes in their buffers.
+use Rattle.std.specs.Prelude.{◌≡◌, ◌==◌, Bool, true, Result, Ok, Err, refl}
+use Rattle.std.proofs.Common.{true≢false, sym}
+use Rattle.std.specs.Cmp.{IsPartialEquivalence, and_per, on_per, partial_equiv_from_equiv}
+use Rattle.std.specs.Cmp.Lexicographic.{pointwise, lists_per}
+use Rattle.std.specs.Ordering.{on, eq_of_both}
+use Rattle.std.specs.Result.{result_eq}
+use Rattle.std.proofs.lemmas.Cmp.{nat_eq_equiv}
+use Rattle.reader.specs.declared.call.Answer.{Answer}
+use Rattle.reader.specs.declared.refusal.Refusal.{Refusal}
+use Rattle.reader.specs.contracts.call.AnswerPartialEq.TheImpl as answers
+use Rattle.reader.specs.contracts.call.AnswerPartialEq.TheImpl.Laws as answers_laws
+use Rattle.reader.specs.contracts.refusal.RefusalPartialEq.TheImpl as refusals
+use Rattle.reader.specs.contracts.refusal.RefusalPartialEq.TheImpl.Laws as refusals_laws
+use Rattle.witness.specs.declared.calls.Answered.{Answered}
+
+abbrev pub same_answer : Result Answer Refusal → Result Answer Refusal → Bool
+same_answer = result_eq (answers.ghosts).eq (refusals.ghosts).eq
+
+abbrev pub same_answered : Answered → Answered → Bool
+same_answered = eq_of_both (on (λ a. a.answer) same_answer) (on (λ a. a.buffer.items) (pointwise ◌==◌))
+
+-- It holds both ways round, and along a chain.
+module _ {T X : Type 0} {E : T → T → Bool} {F : X → X → Bool} (e : IsPartialEquivalence E) (f : IsPartialEquivalence F) where
+  both_ways : (x y : Result T X) → result_eq E F x y ≡ result_eq E F y x
+  both_ways (Ok x) (Ok y) = e.symm x y
+  both_ways (Ok x) (Err y) = refl
+  both_ways (Err x) (Ok y) = refl
+  both_ways (Err x) (Err y) = f.symm x y
+
+  along : (x y z : Result T X) → result_eq E F x y ≡ true → result_eq E F y z ≡ true → result_eq E F x z ≡ true
+  along (Ok x) (Ok y) (Ok z) p q = e.trans x y z p q
+  along (Ok x) (Ok y) (Err z) p q = q
+  along (Ok x) (Err y) (Ok z) p q = absurd (true≢false (sym p))
+  along (Ok x) (Err y) (Err z) p q = p
+  along (Err x) (Ok y) (Ok z) p q = p
+  along (Err x) (Ok y) (Err z) p q = absurd (true≢false (sym p))
+  along (Err x) (Err y) (Ok z) p q = q
+  along (Err x) (Err y) (Err z) p q = f.trans x y z p q
+
+  results_per : IsPartialEquivalence (result_eq E F)
+  results_per = record { symm = both_ways; trans = along }
+
+pub compares : IsPartialEquivalence same_answered
+compares =
+    and_per (on_per (λ a. a.answer) (results_per answers_laws.laws-law refusals_laws.laws-law))
+    (on_per (λ a. a.buffer.items) (lists_per (partial_equiv_from_equiv nat_eq_equiv)))
