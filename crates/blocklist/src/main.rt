@@ -1,4 +1,6 @@
 // Lists the blocks of a strip that comes on standard input.
+#![tactic(auto)]
+
 use listing::strip_blocks;
 use std::io;
 use std::io::Read;

@@ -14,7 +14,7 @@ use witness::play;
 
 // Plays the calls to a fresh reader over a deck.
 fn over<D: Deck + Drop>(heap: Global, deck: D, asks: &[Ask]) -> Result<Told, AllocError>
-    ensures { IfOk result (λ t. sending t ≡ sent (replies (meaning deck) (map question asks.now))) }
+    ensures { IfOk result (λ t. sending t ≡ sent (replies (D.meaning deck) (map question asks.now))) }
 {
     let calls = asked(heap, asks)?;
     tell(heap, play(heap, deck, calls)?)

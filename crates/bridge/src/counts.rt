@@ -33,8 +33,8 @@ pub struct WantedBlock {
 
 // A reader that has surveyed its deck so many times.
 fn surveyed<D: Deck>(deck: D, surveys: u32) -> Reader<D>
-    ensures stays { meaning result.deck ≡ meaning deck }
-    ensures remembers { result.accepted ≡ after_surveys surveys (meaning deck) }
+    ensures stays { D.meaning result.deck ≡ D.meaning deck }
+    ensures remembers { result.accepted ≡ after_surveys surveys (D.meaning deck) }
 {
     let mut reader = Reader::new(deck);
     for _ in 0..surveys {
@@ -45,10 +45,10 @@ fn surveyed<D: Deck>(deck: D, surveys: u32) -> Reader<D>
 
 // 1 for a line that the reader delivers, else 0.
 fn delivers<D: Deck>(reader: &mut Reader<D>, wanted: &WantedLine, buffer: &mut [u8]) -> u64
-    ensures stays { meaning reader.new.deck ≡ meaning reader.old.deck }
+    ensures stays { D.meaning reader.new.deck ≡ D.meaning reader.old.deck }
     ensures remembers { reader.new.accepted ≡ reader.old.accepted }
-    ensures value { result ≡ one_if (line_answer (meaning reader.old.deck) reader.old.accepted wanted.now.band wanted.now.line (length buffer.old)) }
-    ensures writes { buffer.new ≡ buffer_after (line_answer (meaning reader.old.deck) reader.old.accepted wanted.now.band wanted.now.line (length buffer.old)) buffer.old }
+    ensures value { result ≡ one_if (line_answer (D.meaning reader.old.deck) reader.old.accepted wanted.now.band wanted.now.line (length buffer.old)) }
+    ensures writes { buffer.new ≡ buffer_after (line_answer (D.meaning reader.old.deck) reader.old.accepted wanted.now.band wanted.now.line (length buffer.old)) buffer.old }
 {
     match reader.line(wanted.band, wanted.line, buffer) {
         Ok(_) => 1,
@@ -58,8 +58,8 @@ fn delivers<D: Deck>(reader: &mut Reader<D>, wanted: &WantedLine, buffer: &mut [
 
 // How many of the lines the reader delivers.
 fn delivered<D: Deck>(reader: &mut Reader<D>, lines: &[WantedLine], buffer: &mut [u8]) -> u64
-    ensures value { result ≡ delivered_of (meaning reader.old.deck) reader.old.accepted (length buffer.old) lines.now }
-    ensures writes { buffer.new ≡ after_lines (meaning reader.old.deck) reader.old.accepted (length buffer.old) lines.now buffer.old }
+    ensures value { result ≡ delivered_of (D.meaning reader.old.deck) reader.old.accepted (length buffer.old) lines.now }
+    ensures writes { buffer.new ≡ after_lines (D.meaning reader.old.deck) reader.old.accepted (length buffer.old) lines.now buffer.old }
 {
     let mut count = 0;
     for wanted in lines {
@@ -70,7 +70,7 @@ fn delivered<D: Deck>(reader: &mut Reader<D>, lines: &[WantedLine], buffer: &mut
 
 // Surveys a deck and reads lines from it.
 fn lines_of<D: Deck + Drop>(deck: D, surveys: u32, lines: &[WantedLine], buffer: &mut [u8]) -> u64
-    ensures { counting result buffer.new ≡ lines_of surveys lines.now buffer.old (meaning deck) }
+    ensures { counting result buffer.new ≡ lines_of surveys lines.now buffer.old (D.meaning deck) }
 {
     let mut reader = surveyed(deck, surveys);
     delivered(&mut reader, lines, buffer)
@@ -78,10 +78,10 @@ fn lines_of<D: Deck + Drop>(deck: D, surveys: u32, lines: &[WantedLine], buffer:
 
 // 1 for a block that is a record, else 0. It is fetched; a record that does not fit the buffer is one too.
 fn is_record<D: Deck>(deck: &mut D, wanted: &WantedBlock, buffer: &mut [u8]) -> u64
-    ensures stays { meaning deck.new ≡ meaning deck.old }
-    ensures value { result ≡ one_if_record (look (meaning deck.old) wanted.now.reel wanted.now.block) }
+    ensures stays { D.meaning deck.new ≡ D.meaning deck.old }
+    ensures value { result ≡ one_if_record (look (D.meaning deck.old) wanted.now.reel wanted.now.block) }
     ensures few { result ≤ 1 }
-    ensures writes { buffer.new ≡ filled (look (meaning deck.old) wanted.now.reel wanted.now.block) buffer.old }
+    ensures writes { buffer.new ≡ filled (look (D.meaning deck.old) wanted.now.reel wanted.now.block) buffer.old }
 {
     match deck.fetch(wanted.reel, wanted.block, buffer) {
         Ok(Kind::Record(_)) => 1,
@@ -92,7 +92,7 @@ fn is_record<D: Deck>(deck: &mut D, wanted: &WantedBlock, buffer: &mut [u8]) -> 
 
 // How many of the blocks are records.
 fn blocks_of<D: Deck + Drop>(deck: D, blocks: &[WantedBlock], buffer: &mut [u8]) -> u64
-    ensures { counting result buffer.new ≡ blocks_of blocks.now buffer.old (meaning deck) }
+    ensures { counting result buffer.new ≡ blocks_of blocks.now buffer.old (D.meaning deck) }
 {
     let mut deck = deck;
     let mut count = 0;
@@ -109,7 +109,7 @@ fn blocks_through<D: Deck + Drop>(
     blocks: &[WantedBlock],
     buffer: &mut [u8],
 ) -> u64
-    ensures { counting result buffer.new ≡ blocks_through turners blocks.now buffer.old (meaning deck) }
+    ensures { counting result buffer.new ≡ blocks_through turners blocks.now buffer.old (D.meaning deck) }
 {
     match turners {
         0 => blocks_of(deck, blocks, buffer),

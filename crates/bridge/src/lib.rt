@@ -1,4 +1,6 @@
 // The way from C or Rust to stored sets: each function opens an image from bytes, and asks a reader or a deck over it.
+#![tactic(auto)]
+
 mod ask;
 mod calls;
 mod copied;

@@ -51,9 +51,9 @@ fn fetch_number(fetched: Result<Kind, Short>) -> (u64, u64)
 
 // Asks a deck for a block in both ways.
 fn look_at<D: Deck>(heap: Global, deck: &mut D, fetch: &Fetch) -> Result<Seen, AllocError>
-    ensures stays { meaning deck.new ≡ meaning deck.old }
-    ensures words { IfOk result (λ s. s.words ≡ words_of (meaning deck.old) fetch.now) }
-    ensures fills { IfOk result (λ s. s.buffer.items ≡ buffer_of (meaning deck.old) fetch.now) }
+    ensures stays { D.meaning deck.new ≡ D.meaning deck.old }
+    ensures words { IfOk result (λ s. s.words ≡ words_of (D.meaning deck.old) fetch.now) }
+    ensures fills { IfOk result (λ s. s.buffer.items ≡ buffer_of (D.meaning deck.old) fetch.now) }
 {
     let mut buffer = buffer(heap, fetch.room)?;
     let (kind, length) = kind_number(deck.kind(fetch.reel, fetch.block));
@@ -67,7 +67,7 @@ fn look_at<D: Deck>(heap: Global, deck: &mut D, fetch: &Fetch) -> Result<Seen, A
 
 // Asks a deck for its number of reels and for blocks.
 fn asked_of<D: Deck + Drop>(heap: Global, deck: D, fetches: &[Fetch]) -> Result<Told, AllocError>
-    ensures { IfOk result (λ t. sending t ≡ sent_of (meaning deck) fetches.now) }
+    ensures { IfOk result (λ t. sending t ≡ sent_of (D.meaning deck) fetches.now) }
 {
     let mut deck = deck;
     let mut words = Vec::new(heap);
@@ -88,7 +88,7 @@ fn through<D: Deck + Drop>(
     deck: D,
     fetches: &[Fetch],
 ) -> Result<Told, AllocError>
-    ensures { IfOk result (λ t. sending t ≡ sent_of (piled turners (meaning deck)) fetches.now) }
+    ensures { IfOk result (λ t. sending t ≡ sent_of (piled turners (D.meaning deck)) fetches.now) }
 {
     match turners {
         0 => asked_of(heap, deck, fetches),

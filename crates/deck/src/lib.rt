@@ -1,5 +1,7 @@
 // Tape decks. A deck means a tape set, 1 to 9 reels of blocks, and tells of it block by block. What it tells follows
 // from that meaning and the arguments alone, and no call changes the meaning.
+#![tactic(auto)]
+
 ghost use Rattle.std.specs.Prelude.{◌≡◌, length};
 ghost use Rattle.deck.specs.Answers.{kind_of, fetched, filled};
 ghost use Rattle.deck.specs.Tape.{TapeSet, Sound, look};

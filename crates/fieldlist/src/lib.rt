@@ -1,4 +1,6 @@
 // The fields of a tape set's records, as text.
+#![tactic(auto)]
+
 mod laws;
 mod measured;
 mod records;

@@ -36,7 +36,7 @@ fn line_fields<D: Deck>(
     outline: Outline,
     wanted: Wanted,
 ) -> Result<String, AllocError>
-    ensures { IfOk result (λ t. string_bytes t ≡ line_text (meaning reader.old.deck) reader.old.accepted outline wanted) }
+    ensures { IfOk result (λ t. string_bytes t ≡ line_text (D.meaning reader.old.deck) reader.old.accepted outline wanted) }
 {
     let line = wanted.line;
     let name = band_name(heap, wanted.band)?;
@@ -61,7 +61,7 @@ pub(crate) fn wanted_line<D: Deck>(
     outline: Outline,
     wanted: Option<Wanted>,
 ) -> Result<String, AllocError>
-    ensures { IfOk result (λ t. string_bytes t ≡ wanted_text (meaning reader.old.deck) reader.old.accepted outline wanted) }
+    ensures { IfOk result (λ t. string_bytes t ≡ wanted_text (D.meaning reader.old.deck) reader.old.accepted outline wanted) }
 {
     match wanted {
         Some(wanted) => line_fields(heap, reader, outline, wanted),

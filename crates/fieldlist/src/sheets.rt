@@ -34,9 +34,9 @@ fn annotation<D: Deck>(
     code: u8,
     index: u32,
 ) -> Result<String, AllocError>
-    ensures stays { meaning reader.new.deck ≡ meaning reader.old.deck }
+    ensures stays { D.meaning reader.new.deck ≡ D.meaning reader.old.deck }
     ensures remembers { reader.new.accepted ≡ reader.old.accepted }
-    ensures text { IfOk result (λ t. string_bytes t ≡ annotation (meaning reader.old.deck) reader.old.accepted code index) }
+    ensures text { IfOk result (λ t. string_bytes t ≡ annotation (D.meaning reader.old.deck) reader.old.accepted code index) }
 {
     let name = band_name(heap, code)?;
     let subject = format!(in heap; "ANNOTATION {name} {index}")?;
@@ -57,9 +57,9 @@ fn band_annotations<D: Deck>(
     code: u8,
     count: u32,
 ) -> Result<String, AllocError>
-    ensures stays { meaning reader.new.deck ≡ meaning reader.old.deck }
+    ensures stays { D.meaning reader.new.deck ≡ D.meaning reader.old.deck }
     ensures remembers { reader.new.accepted ≡ reader.old.accepted }
-    ensures text { IfOk result (λ t. string_bytes t ≡ annotations_to (meaning reader.old.deck) reader.old.accepted count code) }
+    ensures text { IfOk result (λ t. string_bytes t ≡ annotations_to (D.meaning reader.old.deck) reader.old.accepted count code) }
 {
     let mut text = String::new(heap);
     for n in 0..count {
@@ -76,9 +76,9 @@ pub(crate) fn annotations<D: Deck>(
     count: u32,
 ) -> Result<String, AllocError>
     requires { length (present reader.old.accepted) ≤ 5 }
-    ensures stays { meaning reader.new.deck ≡ meaning reader.old.deck }
+    ensures stays { D.meaning reader.new.deck ≡ D.meaning reader.old.deck }
     ensures remembers { reader.new.accepted ≡ reader.old.accepted }
-    ensures text { IfOk result (λ t. string_bytes t ≡ each (annotations_to (meaning reader.old.deck) reader.old.accepted count) (present reader.old.accepted)) }
+    ensures text { IfOk result (λ t. string_bytes t ≡ each (annotations_to (D.meaning reader.old.deck) reader.old.accepted count) (present reader.old.accepted)) }
 {
     let mut text = String::new(heap);
     let mut k = 1;

@@ -31,7 +31,7 @@ pub fn tape_fields<D: Deck + Drop>(
     deck: D,
     wanted: Option<Wanted>,
 ) -> Result<String, AllocError>
-    ensures { IfOk result (λ t. string_bytes t ≡ tape_text (meaning deck) wanted) }
+    ensures { IfOk result (λ t. string_bytes t ≡ tape_text (D.meaning deck) wanted) }
 {
     let mut reader = Reader::new(deck);
     match reader.survey() {

@@ -1,4 +1,6 @@
 // Fields of single records, read where they stand.
+#![tactic(auto)]
+
 mod annotation;
 mod fault;
 mod image;

@@ -12,9 +12,9 @@ const LONGEST_BODY: usize = 5382;
 
 // How many of the lines of a band, from line 1 on, the reader delivers.
 fn readable<D: Deck>(reader: &mut Reader<D>, code: u8, lines: u32) -> u32
-    ensures stays { meaning reader.new.deck ≡ meaning reader.old.deck }
+    ensures stays { D.meaning reader.new.deck ≡ D.meaning reader.old.deck }
     ensures remembers { reader.new.accepted ≡ reader.old.accepted }
-    ensures value { result ≡ readable (meaning reader.old.deck) reader.old.accepted code lines }
+    ensures value { result ≡ readable (D.meaning reader.old.deck) reader.old.accepted code lines }
 {
     let mut buffer = [0; LONGEST_BODY];
     let mut count = 0;
@@ -33,7 +33,7 @@ pub(crate) fn bands_listing<D: Deck>(
     lines: u32,
 ) -> Result<String, AllocError>
     requires { length (present reader.old.accepted) ≤ 5 }
-    ensures { IfOk result (λ t. string_bytes t ≡ bands_text (meaning reader.old.deck) reader.old.accepted lines (present reader.old.accepted)) }
+    ensures { IfOk result (λ t. string_bytes t ≡ bands_text (D.meaning reader.old.deck) reader.old.accepted lines (present reader.old.accepted)) }
 {
     let mut text = String::new(heap);
     let mut k = 1;

@@ -1,4 +1,6 @@
 // The texts that the programs print.
+#![tactic(auto)]
+
 ghost use Rattle.std.specs.Prelude.{◌≡◌, IfOk, string_bytes};
 ghost use Rattle.image.specs.Stored.{number};
 ghost use Rattle.listing.specs.Blocks.{blocks_text};
@@ -19,8 +21,8 @@ pub use tapes::{strip_tape, tape};
 
 // The blocks of a deck's reels: for each reel how many there are, and a line for each run of equal ones.
 pub fn blocks<D: Deck>(heap: Global, deck: &mut D) -> Result<String, AllocError>
-    ensures stays { meaning deck.new ≡ meaning deck.old }
-    ensures text { IfOk result (λ t. string_bytes t ≡ blocks_text (meaning deck.old)) }
+    ensures stays { D.meaning deck.new ≡ D.meaning deck.old }
+    ensures text { IfOk result (λ t. string_bytes t ≡ blocks_text (D.meaning deck.old)) }
 {
     let mut text = String::new(heap);
     for reel in 1..=deck.reels() {

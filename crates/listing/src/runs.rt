@@ -32,8 +32,8 @@ fn run_line(heap: Global, count: u32, kind: Kind) -> Result<String, AllocError>
 
 // How many blocks a reel has.
 fn count_blocks<D: Deck>(deck: &mut D, reel: u32) -> u32
-    ensures stays { meaning deck.new ≡ meaning deck.old }
-    ensures value { result ≡ length (reel_of (meaning deck.old) reel) }
+    ensures stays { D.meaning deck.new ≡ D.meaning deck.old }
+    ensures value { result ≡ length (reel_of (D.meaning deck.old) reel) }
 {
     let mut count = 0;
     while deck.kind(reel, count + 1) != Kind::Absent {
@@ -44,8 +44,8 @@ fn count_blocks<D: Deck>(deck: &mut D, reel: u32) -> u32
 
 // The lines of the runs of a reel.
 fn runs<D: Deck>(heap: Global, deck: &mut D, reel: u32) -> Result<String, AllocError>
-    ensures stays { meaning deck.new ≡ meaning deck.old }
-    ensures text { IfOk result (λ t. string_bytes t ≡ runs_text 1 (reel_of (meaning deck.old) reel)) }
+    ensures stays { D.meaning deck.new ≡ D.meaning deck.old }
+    ensures text { IfOk result (λ t. string_bytes t ≡ runs_text 1 (reel_of (D.meaning deck.old) reel)) }
 {
     let mut text = String::new(heap);
     let mut block = 1;
@@ -68,8 +68,8 @@ fn runs<D: Deck>(heap: Global, deck: &mut D, reel: u32) -> Result<String, AllocE
 
 // A reel by its number.
 pub fn reel_listing<D: Deck>(heap: Global, deck: &mut D, reel: u32) -> Result<String, AllocError>
-    ensures stays { meaning deck.new ≡ meaning deck.old }
-    ensures text { IfOk result (λ t. string_bytes t ≡ reel_text reel (reel_of (meaning deck.old) reel)) }
+    ensures stays { D.meaning deck.new ≡ D.meaning deck.old }
+    ensures text { IfOk result (λ t. string_bytes t ≡ reel_text reel (reel_of (D.meaning deck.old) reel)) }
 {
     let count = count_blocks(deck, reel);
     let blocks = noun(count, "block", "blocks");

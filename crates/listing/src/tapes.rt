@@ -16,7 +16,7 @@ const LONGEST_STRIP: usize = 65536;
 
 // What a deck holds, as a reader finds it: the set and how many lines of each band can be read, or the fault.
 pub fn tape<D: Deck + Drop>(heap: Global, deck: D) -> Result<String, AllocError>
-    ensures { IfOk result (λ t. string_bytes t ≡ tape_text (meaning deck)) }
+    ensures { IfOk result (λ t. string_bytes t ≡ tape_text (D.meaning deck)) }
 {
     let mut reader = Reader::new(deck);
     match reader.survey() {

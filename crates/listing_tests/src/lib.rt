@@ -1,4 +1,6 @@
 // The listings of small strips.
+#![tactic(auto)]
+
 #[cfg(test)]
 mod tests {
     use image::{Cause, Refusal};

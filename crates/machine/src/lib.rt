@@ -1,4 +1,6 @@
 // The machine that reads a set block by block: what it expects, what it does with each block that comes, and what it has found in the end.
+#![tactic(auto)]
+
 mod accepted;
 mod image;
 mod machine;

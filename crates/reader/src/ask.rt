@@ -10,10 +10,10 @@ use deck::Deck;
 impl<D: Deck> Reader<D> {
     // Answers a call. A call that delivers nothing leaves the buffer as it is.
     pub fn ask(&mut self, call: Call, buffer: &mut [u8]) -> Result<Answer, Refusal>
-        ensures stays { meaning self.new.deck ≡ meaning self.old.deck }
-        ensures says { told_answer result ≡ (answer (meaning self.old.deck) (remembering self.old.accepted self.old.tally) call buffer.old).said }
-        ensures writes { buffer.new ≡ (answer (meaning self.old.deck) (remembering self.old.accepted self.old.tally) call buffer.old).buffer }
-        ensures remembers { remembering self.new.accepted self.new.tally ≡ (answer (meaning self.old.deck) (remembering self.old.accepted self.old.tally) call buffer.old).memory }
+        ensures stays { D.meaning self.new.deck ≡ D.meaning self.old.deck }
+        ensures says { told_answer result ≡ (answer (D.meaning self.old.deck) (remembering self.old.accepted self.old.tally) call buffer.old).said }
+        ensures writes { buffer.new ≡ (answer (D.meaning self.old.deck) (remembering self.old.accepted self.old.tally) call buffer.old).buffer }
+        ensures remembers { remembering self.new.accepted self.new.tally ≡ (answer (D.meaning self.old.deck) (remembering self.old.accepted self.old.tally) call buffer.old).memory }
     {
         match call {
             Call::Survey => Ok(Answer::Outline(self.survey()?)),

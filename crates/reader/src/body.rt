@@ -16,9 +16,9 @@ pub(crate) fn body<D: Deck>(
 ) -> Result<usize, CallerFault>
     requires large { (6 ≤ size) × (size ≤ 5388) }
     requires room { (length scratch.old ≡ 5388) × (size ≤ length buffer.old + 6) }
-    ensures stays { meaning deck.new ≡ meaning deck.old }
-    ensures says { told_caller result ≡ told_delivery (body_at (meaning deck.old) spot size) }
-    ensures writes { buffer.new ≡ buffer_after (body_at (meaning deck.old) spot size) buffer.old }
+    ensures stays { D.meaning deck.new ≡ D.meaning deck.old }
+    ensures says { told_caller result ≡ told_delivery (body_at (D.meaning deck.old) spot size) }
+    ensures writes { buffer.new ≡ buffer_after (body_at (D.meaning deck.old) spot size) buffer.old }
 {
     let Some(spot) = spot else {
         return Err(CallerFault::Unreadable);

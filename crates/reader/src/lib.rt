@@ -1,4 +1,6 @@
 // The reader: what an archive server asks of a tape set.
+#![tactic(auto)]
+
 mod ask;
 mod body;
 mod call;

@@ -59,9 +59,9 @@ impl<D: Deck> Reader<D> {
 
     // Surveys the set and remembers what it accepts, of which at most five bands are present. The tally stays.
     pub fn survey(&mut self) -> Result<Outline, Refusal>
-        ensures stays { meaning self.new.deck ≡ meaning self.old.deck }
-        ensures says { told result ≡ survey_answer (surveyed (meaning self.old.deck)) }
-        ensures remembers { (self.new.accepted ≡ accepted_by (surveyed (meaning self.old.deck))) × (self.new.tally ≡ self.old.tally) }
+        ensures stays { D.meaning self.new.deck ≡ D.meaning self.old.deck }
+        ensures says { told result ≡ survey_answer (surveyed (D.meaning self.old.deck)) }
+        ensures remembers { (self.new.accepted ≡ accepted_by (surveyed (D.meaning self.old.deck))) × (self.new.tally ≡ self.old.tally) }
         ensures few { IfOk result (λ o. o.bands ≤ 5) }
     {
         match survey(&mut self.deck) {
@@ -106,10 +106,10 @@ impl<D: Deck> Reader<D> {
 
     // Puts the body of a line of a band into a buffer, and counts it.
     pub fn line(&mut self, band: u8, line: u32, buffer: &mut [u8]) -> Result<usize, Refusal>
-        ensures stays { meaning self.new.deck ≡ meaning self.old.deck }
-        ensures says { told result ≡ told_delivery (line_answer (meaning self.old.deck) self.old.accepted band line (length buffer.old)) }
-        ensures writes { buffer.new ≡ buffer_after (line_answer (meaning self.old.deck) self.old.accepted band line (length buffer.old)) buffer.old }
-        ensures remembers { (self.new.accepted ≡ self.old.accepted) × (self.new.tally ≡ raised (line_answer (meaning self.old.deck) self.old.accepted band line (length buffer.old)) self.old.tally) }
+        ensures stays { D.meaning self.new.deck ≡ D.meaning self.old.deck }
+        ensures says { told result ≡ told_delivery (line_answer (D.meaning self.old.deck) self.old.accepted band line (length buffer.old)) }
+        ensures writes { buffer.new ≡ buffer_after (line_answer (D.meaning self.old.deck) self.old.accepted band line (length buffer.old)) buffer.old }
+        ensures remembers { (self.new.accepted ≡ self.old.accepted) × (self.new.tally ≡ raised (line_answer (D.meaning self.old.deck) self.old.accepted band line (length buffer.old)) self.old.tally) }
     {
         let Some(accepted) = self.accepted else {
             return Err(Refusal::Caller(CallerFault::NotAccepted));
@@ -150,9 +150,9 @@ impl<D: Deck> Reader<D> {
         index: u32,
         buffer: &mut [u8],
     ) -> Result<usize, Refusal>
-        ensures stays { meaning self.new.deck ≡ meaning self.old.deck }
-        ensures says { told result ≡ told_delivery (sheet_answer (meaning self.old.deck) self.old.accepted band kind index (length buffer.old)) }
-        ensures writes { buffer.new ≡ buffer_after (sheet_answer (meaning self.old.deck) self.old.accepted band kind index (length buffer.old)) buffer.old }
+        ensures stays { D.meaning self.new.deck ≡ D.meaning self.old.deck }
+        ensures says { told result ≡ told_delivery (sheet_answer (D.meaning self.old.deck) self.old.accepted band kind index (length buffer.old)) }
+        ensures writes { buffer.new ≡ buffer_after (sheet_answer (D.meaning self.old.deck) self.old.accepted band kind index (length buffer.old)) buffer.old }
         ensures remembers { (self.new.accepted ≡ self.old.accepted) × (self.new.tally ≡ self.old.tally) }
     {
         let Some(accepted) = self.accepted else {

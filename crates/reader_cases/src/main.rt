@@ -1,4 +1,6 @@
 // Plays the calls of a script to readers over stored sets, and prints every answer.
+#![tactic(auto)]
+
 mod script;
 mod text;
 

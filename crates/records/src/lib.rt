@@ -1,4 +1,6 @@
 // Single records of EDIPS scene tapes: the checks that they pass, what directories and headers say, and what can be wrong.
+#![tactic(auto)]
+
 mod bands;
 mod directory;
 mod fault;

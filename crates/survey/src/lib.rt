@@ -1,4 +1,6 @@
 // The survey of a tape set: whether it obeys the layout of EDIPS scene tapes, and where its records lie.
+#![tactic(auto)]
+
 mod fault;
 mod reading;
 mod worked;

@@ -42,9 +42,9 @@ fn take<D: Deck>(
     scratch: &mut [u8],
 ) -> Result<bool, TapeFault>
     requires room { length scratch.old ≡ 5388 }
-    ensures stays { meaning deck.new ≡ meaning deck.old }
-    ensures says { told_step result machine.new ≡ placed at (step machine.old at (look (meaning deck.old) at.reel at.block)) }
-    ensures more { IfOk result (λ b. b ≡ is_some (look (meaning deck.old) at.reel at.block)) }
+    ensures stays { D.meaning deck.new ≡ D.meaning deck.old }
+    ensures says { told_step result machine.new ≡ placed at (step machine.old at (look (D.meaning deck.old) at.reel at.block)) }
+    ensures more { IfOk result (λ b. b ≡ is_some (look (D.meaning deck.old) at.reel at.block)) }
 {
     let Ok(kind) = deck.fetch(at.reel, at.block, scratch) else {
         return unreachable();
@@ -67,9 +67,9 @@ fn survey_reel<D: Deck>(
     scratch: &mut [u8],
 ) -> Result<(), TapeFault>
     requires room { length scratch.old ≡ 5388 }
-    requires on_reel { (1 ≤ reel) × (reel ≤ length (meaning deck.old)) }
-    ensures stays { meaning deck.new ≡ meaning deck.old }
-    ensures says { told_step result machine.new ≡ feed_reel machine.old reel 1 (slice_index_or (meaning deck.old) (reel - 1) []) }
+    requires on_reel { (1 ≤ reel) × (reel ≤ length (D.meaning deck.old)) }
+    ensures stays { D.meaning deck.new ≡ D.meaning deck.old }
+    ensures says { told_step result machine.new ≡ feed_reel machine.old reel 1 (slice_index_or (D.meaning deck.old) (reel - 1) []) }
 {
     let mut block = 1;
     while take(deck, machine, Place { reel, block }, scratch)? {
@@ -80,9 +80,9 @@ fn survey_reel<D: Deck>(
 
 // Surveys the set that is on a deck: what an accepted set is, or the first fault in the order of the tape.
 pub fn survey<D: Deck>(deck: &mut D) -> Result<Accepted, TapeFault>
-    ensures stays { meaning deck.new ≡ meaning deck.old }
-    ensures says { told result ≡ surveyed (meaning deck.old) }
-    ensures judges { Judged (told result) (meaning deck.old) }
+    ensures stays { D.meaning deck.new ≡ D.meaning deck.old }
+    ensures says { told result ≡ surveyed (D.meaning deck.old) }
+    ensures judges { Judged (told result) (D.meaning deck.old) }
 {
     let reels = deck.reels();
     let mut machine = Machine::new(reels);

@@ -1,5 +1,7 @@
 // Prints the fields of a strip that comes on standard input: of its annotation records, and of one line where two words say which,
 // its band's code and its number.
+#![tactic(auto)]
+
 use anyhow::anyhow;
 use fieldlist::{Wanted, strip_fields};
 use std::env;

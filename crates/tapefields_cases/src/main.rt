@@ -1,5 +1,7 @@
 // Prints the fields of many strips. A line `strip NAME` of the file cases.txt names one, and may say by two words more which line is wanted; a line
 // `zeros COUNT` stands for so many zeros. Each is printed, and then what is printed of its strip.
+#![tactic(auto)]
+
 use anyhow::anyhow;
 use fieldlist::{Wanted, strip_fields};
 use std::fs;

@@ -1,4 +1,6 @@
 // Lists the tape set of a strip that comes on standard input.
+#![tactic(auto)]
+
 use listing::strip_tape;
 use std::io;
 use std::io::Read;

@@ -1,5 +1,7 @@
 // Lists the tape sets of many strips. The file list.txt names them, a path to a line, as vectors/001: for each its number stands on a line, and
 // then its listing.
+#![tactic(auto)]
+
 use listing::strip_tape;
 use std::{fs, io};
 

@@ -1,4 +1,6 @@
 // Turns the set of a strip that comes on standard input, and writes it as a strip. What is refused is told on standard error.
+#![tactic(auto)]
+
 use std::io;
 use std::io::{Read, Write};
 use turning::{Turned, strip_turned};

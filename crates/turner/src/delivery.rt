@@ -16,8 +16,8 @@ use reader::Spot;
 
 // Where a record of some length stands, if the place below bears one.
 fn borne<D: Deck>(deck: &mut D, spot: Option<Spot>, size: usize) -> Option<Place>
-    ensures stays { meaning deck.new ≡ meaning deck.old }
-    ensures value { result ≡ borne_at (meaning deck.old) size spot }
+    ensures stays { D.meaning deck.new ≡ D.meaning deck.old }
+    ensures value { result ≡ borne_at (D.meaning deck.old) size spot }
 {
     let spot = spot?;
     let Ok(block) = u32::try_from(spot.block) else {
@@ -35,8 +35,8 @@ fn borne<D: Deck>(deck: &mut D, spot: Option<Spot>, size: usize) -> Option<Place
 // What kind of block a source gives: one that the tape below does not bear is bad.
 pub(crate) fn kind_from<D: Deck>(deck: &mut D, source: Option<Source>) -> Kind
     requires { Sized source }
-    ensures stays { meaning deck.new ≡ meaning deck.old }
-    ensures value { result ≡ shown_kind (meaning deck.old) source }
+    ensures stays { D.meaning deck.new ≡ D.meaning deck.old }
+    ensures value { result ≡ shown_kind (D.meaning deck.old) source }
 {
     let Some(source) = source else {
         return Kind::Mark;
@@ -96,10 +96,10 @@ fn copied_record<D: Deck>(
     buffer: &mut [u8],
 ) -> Result<Kind, Short>
     requires long { 6 ≤ source.size }
-    requires there { bears (body_of source.size (look (meaning deck.old) at.reel at.block)) ≡ true }
-    ensures stays { meaning deck.new ≡ meaning deck.old }
-    ensures value { result ≡ fetched (Some (record_block (λ body. body) source.kind source.number (readable (body_of source.size (look (meaning deck.old) at.reel at.block))))) (length buffer.old) }
-    ensures bytes { buffer.new ≡ filled (Some (record_block (λ body. body) source.kind source.number (readable (body_of source.size (look (meaning deck.old) at.reel at.block))))) buffer.old }
+    requires there { bears (body_of source.size (look (D.meaning deck.old) at.reel at.block)) ≡ true }
+    ensures stays { D.meaning deck.new ≡ D.meaning deck.old }
+    ensures value { result ≡ fetched (Some (record_block (λ body. body) source.kind source.number (readable (body_of source.size (look (D.meaning deck.old) at.reel at.block))))) (length buffer.old) }
+    ensures bytes { buffer.new ≡ filled (Some (record_block (λ body. body) source.kind source.number (readable (body_of source.size (look (D.meaning deck.old) at.reel at.block))))) buffer.old }
 {
     if buffer.len() < source.size {
         return Err(Short);
@@ -116,9 +116,9 @@ fn fetch_from<D: Deck>(
     buffer: &mut [u8],
 ) -> Result<Kind, Short>
     requires { Sized source }
-    ensures stays { meaning deck.new ≡ meaning deck.old }
-    ensures value { result ≡ fetched (Some (source_block (λ body. body) (meaning deck.old) source)) (length buffer.old) }
-    ensures bytes { buffer.new ≡ filled (Some (source_block (λ body. body) (meaning deck.old) source)) buffer.old }
+    ensures stays { D.meaning deck.new ≡ D.meaning deck.old }
+    ensures value { result ≡ fetched (Some (source_block (λ body. body) (D.meaning deck.old) source)) (length buffer.old) }
+    ensures bytes { buffer.new ≡ filled (Some (source_block (λ body. body) (D.meaning deck.old) source)) buffer.old }
 {
     let Some(source) = source else {
         return Ok(Kind::Mark);
@@ -139,9 +139,9 @@ pub(crate) fn deliver<D: Deck>(
     piece: Piece,
     buffer: &mut [u8],
 ) -> Result<Kind, Short>
-    ensures stays { meaning deck.new ≡ meaning deck.old }
-    ensures value { result ≡ fetched (Some (piece_block turning.now (meaning deck.old) piece)) (length buffer.old) }
-    ensures bytes { buffer.new ≡ filled (Some (piece_block turning.now (meaning deck.old) piece)) buffer.old }
+    ensures stays { D.meaning deck.new ≡ D.meaning deck.old }
+    ensures value { result ≡ fetched (Some (piece_block turning.now (D.meaning deck.old) piece)) (length buffer.old) }
+    ensures bytes { buffer.new ≡ filled (Some (piece_block turning.now (D.meaning deck.old) piece)) buffer.old }
 {
     match fetch_from(deck, source_of(turning, piece), buffer)? {
         Kind::Record(size) => {

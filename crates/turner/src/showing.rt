@@ -36,8 +36,8 @@ fn piece_on(turning: &Turning, reel: u32, block: u32) -> Option<Piece>
 impl<D: Deck> Turner<D> {
     // A turner by what a survey of the deck finds.
     fn surveyed(deck: D) -> Self
-        ensures keeps { meaning result.deck ≡ meaning deck }
-        ensures means { shown result.turning (meaning result.deck) ≡ turned (meaning deck) }
+        ensures keeps { D.meaning result.deck ≡ D.meaning deck }
+        ensures means { shown result.turning (D.meaning result.deck) ≡ turned (D.meaning deck) }
     {
         let mut deck = deck;
         let turning = match survey(&mut deck) {
@@ -49,9 +49,9 @@ impl<D: Deck> Turner<D> {
 
     // A turner over a deck, which is surveyed. It shows the set turned, which keeps an accepted set accepted and its picture as it is.
     pub fn new(deck: D) -> Self
-        ensures keeps { meaning result.deck ≡ meaning deck }
-        ensures means { shown result.turning (meaning result.deck) ≡ turned (meaning deck) }
-        ensures law { Kept (meaning deck) }
+        ensures keeps { D.meaning result.deck ≡ D.meaning deck }
+        ensures means { shown result.turning (D.meaning result.deck) ≡ turned (D.meaning deck) }
+        ensures law { Kept (D.meaning deck) }
     {
         Turner::surveyed(deck)
     }
@@ -66,9 +66,9 @@ impl<D: Deck> Turner<D> {
 }
 
 impl<D: Deck> Deck for Turner<D> {
-    ghost meaning = { λ t. shown t.turning (D.Deck.meaning t.deck) };
+    ghost meaning = { λ t. shown t.turning (D.meaning t.deck) };
 
-    ghost sound = { λ t. shown_sound t.turning (D.Deck.meaning t.deck) t.bounds (D.Deck.sound t.deck) };
+    ghost sound = { λ t. shown_sound t.turning (D.meaning t.deck) t.bounds (D.sound t.deck) };
 
     fn reels(&mut self) -> u32 {
         match self.turning {

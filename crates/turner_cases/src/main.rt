@@ -1,5 +1,7 @@
 // Lists turned sets. A line `turn NAME` of the file cases.txt names a strip that is turned as a strip, and a line `pile COUNT NAME` one that is shown by a
 // pile of so many turners. Each is printed, and then the length, a checksum and the listing of the strip that is made of it.
+#![tactic(auto)]
+
 use anyhow::anyhow;
 use deck::Deck;
 use image::Strip;

@@ -1,4 +1,6 @@
 // Sets as strips: the strip of any deck's set, and the strip of the turned set of a strip.
+#![tactic(auto)]
+
 mod turned;
 mod writing;
 

@@ -44,8 +44,8 @@ fn block_bytes<D: Deck>(
     reel: u32,
     block: u32,
 ) -> Result<Option<Vec<u8>>, AllocError>
-    ensures stays { meaning deck.new ≡ meaning deck.old }
-    ensures bytes { IfOk result (λ o. told_bytes o ≡ block_at (look (meaning deck.old) reel block)) }
+    ensures stays { D.meaning deck.new ≡ D.meaning deck.old }
+    ensures bytes { IfOk result (λ o. told_bytes o ≡ block_at (look (D.meaning deck.old) reel block)) }
 {
     let mut buffer = [0; LONGEST_RECORD];
     match deck.fetch(reel, block, &mut buffer) {
@@ -59,8 +59,8 @@ fn block_bytes<D: Deck>(
 
 // The blocks of a reel, and the word that ends it.
 fn reel_bytes<D: Deck>(heap: Global, deck: &mut D, reel: u32) -> Result<Vec<u8>, AllocError>
-    ensures stays { meaning deck.new ≡ meaning deck.old }
-    ensures bytes { IfOk result (λ v. v.items ≡ reel_bytes (reel_of (meaning deck.old) reel)) }
+    ensures stays { D.meaning deck.new ≡ D.meaning deck.old }
+    ensures bytes { IfOk result (λ v. v.items ≡ reel_bytes (reel_of (D.meaning deck.old) reel)) }
 {
     let mut bytes = Vec::new(heap);
     let mut block = 1;
@@ -75,8 +75,8 @@ fn reel_bytes<D: Deck>(heap: Global, deck: &mut D, reel: u32) -> Result<Vec<u8>,
 
 // The set on a deck as a strip.
 pub fn strip_bytes<D: Deck>(heap: Global, deck: &mut D) -> Result<Vec<u8>, AllocError>
-    ensures stays { meaning deck.new ≡ meaning deck.old }
-    ensures bytes { IfOk result (λ v. v.items ≡ encoded (meaning deck.old)) }
+    ensures stays { D.meaning deck.new ≡ D.meaning deck.old }
+    ensures bytes { IfOk result (λ v. v.items ≡ encoded (D.meaning deck.old)) }
 {
     let mut bytes = Vec::new(heap);
     let reels = deck.reels();

@@ -45,9 +45,9 @@ pub struct Twins {
 
 // One call more.
 fn ask<D: Deck>(reader: &mut Reader<D>, asked: Asked) -> Answered
-    ensures stays { meaning reader.new.deck ≡ meaning reader.old.deck }
-    ensures says { answered result ≡ reply_of (answer (meaning reader.old.deck) (remembering reader.old.accepted reader.old.tally) asked.call asked.buffer.items) }
-    ensures remembers { remembering reader.new.accepted reader.new.tally ≡ (answer (meaning reader.old.deck) (remembering reader.old.accepted reader.old.tally) asked.call (asked.buffer.items)).memory }
+    ensures stays { D.meaning reader.new.deck ≡ D.meaning reader.old.deck }
+    ensures says { answered result ≡ reply_of (answer (D.meaning reader.old.deck) (remembering reader.old.accepted reader.old.tally) asked.call asked.buffer.items) }
+    ensures remembers { remembering reader.new.accepted reader.new.tally ≡ (answer (D.meaning reader.old.deck) (remembering reader.old.accepted reader.old.tally) asked.call (asked.buffer.items)).memory }
 {
     let Asked { call, mut buffer } = asked;
     let answer = reader.ask(call, buffer.as_mut_slice());
@@ -60,7 +60,7 @@ fn ask_all<D: Deck + Drop>(
     deck: D,
     calls: Vec<Asked>,
 ) -> Result<Vec<Answered>, AllocError>
-    ensures { IfOk result (λ v. map answered v.items ≡ replies (meaning deck) (map asked calls.items)) }
+    ensures { IfOk result (λ v. map answered v.items ≡ replies (D.meaning deck) (map asked calls.items)) }
 {
     let mut reader = Reader::new(deck);
     let mut answers = Vec::new(heap);
@@ -77,8 +77,8 @@ pub fn play<D: Deck + Drop>(
     deck: D,
     calls: Vec<Asked>,
 ) -> Result<Vec<Answered>, AllocError>
-    ensures says { IfOk result (λ v. map answered v.items ≡ replies (meaning deck) (map asked calls.items)) }
-    ensures shows { IfOk result (λ v. Shown (meaning deck) (map asked calls.items) (map answered v.items)) }
+    ensures says { IfOk result (λ v. map answered v.items ≡ replies (D.meaning deck) (map asked calls.items)) }
+    ensures shows { IfOk result (λ v. Shown (D.meaning deck) (map asked calls.items) (map answered v.items)) }
 {
     ask_all(heap, deck, calls)
 }

@@ -1,4 +1,6 @@
 // Witnesses of whole runs: lists of calls, played to readers.
+#![tactic(auto)]
+
 mod calls;
 mod twin;
 

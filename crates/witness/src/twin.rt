@@ -28,10 +28,10 @@ pub fn twins<D: Deck + Drop, E: Deck + Drop>(
     other: E,
     calls: Vec<Asked>,
 ) -> Result<Twins, AllocError>
-    ensures first { IfOk result (λ t. map answered t.first.items ≡ replies (D.Deck.meaning one) (map asked calls.items)) }
-    ensures second { IfOk result (λ t. map answered t.second.items ≡ replies (E.Deck.meaning other) (map asked calls.items)) }
-    ensures promise { Promise (D.Deck.meaning one) (E.Deck.meaning other) }
-    ensures alike { IfOk result (λ t. Decides t.alike (replies (D.Deck.meaning one) (map asked calls.items) ≡ replies (E.Deck.meaning other) (map asked calls.items))) }
+    ensures first { IfOk result (λ t. map answered t.first.items ≡ replies (D.meaning one) (map asked calls.items)) }
+    ensures second { IfOk result (λ t. map answered t.second.items ≡ replies (E.meaning other) (map asked calls.items)) }
+    ensures promise { Promise (D.meaning one) (E.meaning other) }
+    ensures alike { IfOk result (λ t. Decides t.alike (replies (D.meaning one) (map asked calls.items) ≡ replies (E.meaning other) (map asked calls.items))) }
 {
     let again = copies(heap, &calls)?;
     let first = play(heap, one, calls)?;

@@ -5,13 +5,13 @@ use Rattle.fieldlist.specs.Measured.{measured, line_name, delivered_line}
 use Rattle.fieldlist.proofs.Deliveries.{zeros, room, delivered, delivered-fits, read_text, has_line}
 use Rattle.fieldlist.proofs.measured.line_fields.Goals as goal
 
-pub slice-bounds-body-end : goal.slice-bounds-body-end
-slice-bounds-body-end g c =
+pub slice_bounds-body-end : goal.slice_bounds-body-end
+slice_bounds-body-end g c =
     let d : Delivery = line_answer (g.D.Deck.meaning c.args.reader.now.deck) c.args.reader.now.accepted c.args.wanted.band c.args.wanted.line (length zeros) in
     delivered-fits d c.in-Ok.length zeros c.line.new.buffer (delivered d c.line.result c.in-Ok.length c.line.ensures.says c.in-Ok.is) c.line.ensures.writes
 
-pub slice-bounds-record-of-end : goal.slice-bounds-record-of-end
-slice-bounds-record-of-end g c =
+pub slice_bounds-record_of-end : goal.slice_bounds-record_of-end
+slice_bounds-record_of-end g c =
     let d : Delivery = line_answer (g.D.Deck.meaning c.args.reader.now.deck) c.args.reader.now.accepted c.args.wanted.band c.args.wanted.line (length zeros) in
     let fit : c.in-Ok.length ≤ length c.line.new.buffer =
     delivered-fits d c.in-Ok.length zeros c.line.new.buffer (delivered d c.line.result c.in-Ok.length c.line.ensures.says c.in-Ok.is) c.line.ensures.writes in
@@ -25,11 +25,11 @@ returns-in-Ok g c =
     let has = measured c.args.outline.sensor c.args.outline.correction in
     let name = line_name w.band w.line in
     let d : Delivery = line_answer set m w.band w.line (length zeros) in
-    let yes : has ≡ true = sym c.is-measured.ensures ∙ search rules in
+    let yes : has ≡ true = sym c.is_measured.ensures ∙ search rules in
     let p = delivered d c.line.result c.in-Ok.length c.line.ensures.says c.in-Ok.is in
-    let subject = c.as-str-in-Ok.ensures.value ∙ c.in-ok-subject.ensures.ok ∙ ap (λ t. codes "LINE " ++ (t ++ (codes " " ++ decimal w.line))) c.in-ok-name.ensures in
-    let record₁ = c.as-slice.ensures.value ∙ c.in-ok-record.ensures in
-    let is = read_text 237 image_lines c.as-str-in-Ok.result.now name c.as-slice.result.now d c.in-Ok.length zeros c.line.new.buffer p c.line.ensures.writes subject record₁ in
+    let subject = c.as_str-in-Ok.ensures.value ∙ c.in_ok-subject.ensures.ok ∙ ap (λ t. codes "LINE " ++ (t ++ (codes " " ++ decimal w.line))) c.in_ok-name.ensures in
+    let record₁ = c.as_slice.ensures.value ∙ c.in_ok-record-in-Ok.ensures in
+    let is = read_text 237 image_lines c.as_str-in-Ok.result.now name c.as_slice.result.now d c.in-Ok.length zeros c.line.new.buffer p c.line.ensures.writes subject record₁ in
     subst (λ t. IfOk c.image_lines.result (λ s. string_bytes s ≡ t))
     (is ∙ has_line name p.body has d yes p.is ∙ ap (λ n. delivered_line name has (line_answer set m w.band w.line n)) room)
     c.image_lines.ensures

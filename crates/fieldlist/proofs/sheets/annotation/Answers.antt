@@ -12,11 +12,11 @@ fits g c =
     let d : Delivery = sheet_answer (g.D.Deck.meaning c.args.reader.now.deck) c.args.reader.now.accepted c.args.code 3 c.args.index (length zeros) in
     delivered-fits d c.in-Ok.length zeros c.sheet.new.buffer (delivered d c.sheet.result c.in-Ok.length c.sheet.ensures.says c.in-Ok.is) c.sheet.ensures.writes
 
-pub slice-bounds-body-end : goal.slice-bounds-body-end
-slice-bounds-body-end g c = fits g c
+pub slice_bounds-body-end : goal.slice_bounds-body-end
+slice_bounds-body-end g c = fits g c
 
-pub slice-bounds-record-of-end : goal.slice-bounds-record-of-end
-slice-bounds-record-of-end g c =
+pub slice_bounds-record_of-end : goal.slice_bounds-record_of-end
+slice_bounds-record_of-end g c =
     let d : Delivery = sheet_answer (g.D.Deck.meaning c.args.reader.now.deck) c.args.reader.now.accepted c.args.code 3 c.args.index (length zeros) in
     let fit : c.in-Ok.length ≤ length c.sheet.new.buffer = delivered-fits d c.in-Ok.length zeros c.sheet.new.buffer (delivered d c.sheet.result c.in-Ok.length c.sheet.ensures.says c.in-Ok.is) c.sheet.ensures.writes in
     omega (arith, length-take c.in-Ok.length c.sheet.new.buffer, fit)
@@ -28,9 +28,9 @@ returns-in-Ok g c =
     let name = annotation_name c.args.code c.args.index in
     let d : Delivery = sheet_answer set m c.args.code 3 c.args.index (length zeros) in
     let p = delivered d c.sheet.result c.in-Ok.length c.sheet.ensures.says c.in-Ok.is in
-    let subject = c.as-str.ensures.value ∙ c.in-ok-subject.ensures.ok ∙ ap (λ t. codes "ANNOTATION " ++ (t ++ (codes " " ++ decimal c.args.index))) c.in-ok-name.ensures in
-    let record₁ = c.as-slice.ensures.value ∙ c.in-ok-record.ensures in
-    let is = read_text 219 annotation_lines c.as-str.result.now name c.as-slice.result.now d c.in-Ok.length zeros c.sheet.new.buffer p c.sheet.ensures.writes subject record₁ in
+    let subject = c.as_str.ensures.value ∙ c.in_ok-subject.ensures.ok ∙ ap (λ t. codes "ANNOTATION " ++ (t ++ (codes " " ++ decimal c.args.index))) c.in_ok-name.ensures in
+    let record₁ = c.as_slice.ensures.value ∙ c.in_ok-record-in-Ok.ensures in
+    let is = read_text 219 annotation_lines c.as_str.result.now name c.as_slice.result.now d c.in-Ok.length zeros c.sheet.new.buffer p c.sheet.ensures.writes subject record₁ in
     record {
       stays = c.sheet.ensures.stays;
       remembers = c.sheet.ensures.remembers.0;
@@ -45,7 +45,7 @@ returns g c =
     let m = c.args.reader.now.accepted in
     let name = annotation_name c.args.code c.args.index in
     let d : Delivery = sheet_answer set m c.args.code 3 c.args.index (length zeros) in
-    let subject = c.as-str-in-Err.ensures.value ∙ c.in-ok-subject.ensures.ok ∙ ap (λ t. codes "ANNOTATION " ++ (t ++ (codes " " ++ decimal c.args.index))) c.in-ok-name.ensures in
+    let subject = c.as_str-in-Err.ensures.value ∙ c.in_ok-subject.ensures.ok ∙ ap (λ t. codes "ANNOTATION " ++ (t ++ (codes " " ++ decimal c.args.index))) c.in_ok-name.ensures in
     let no = refused_by d c.sheet.result c.in-Err.refusal c.sheet.ensures.says c.in-Err.is in
     record {
       stays = c.sheet.ensures.stays;

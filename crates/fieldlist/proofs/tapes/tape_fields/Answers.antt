@@ -10,8 +10,8 @@ returns-in-Ok g c =
     let after = g.D.Deck.meaning c.survey.new.self.deck in
     let last = g.D.Deck.meaning c.annotations.new.reader.deck in
     subst (λ t. IfOk c.format.result (λ s. string_bytes s ≡ t))
-    (both_parts set after last c.args.wanted (surveyed set) c.survey.result c.in-Ok.outline c.survey.new.self.accepted c.annotations.new.reader.accepted c.annotation-count.result
-    (string_bytes c.in-ok-annotations.annotations) (string_bytes c.in-ok-line.line) c.survey.ensures.says c.in-Ok.is c.survey.ensures.remembers.0 c.survey.ensures.stays
-    c.annotations.ensures.stays c.annotations.ensures.remembers c.annotation-count.ensures c.in-ok-annotations.ensures.text c.in-ok-line.ensures
+    (both_parts set after last c.args.wanted (surveyed set) c.survey.result c.in-Ok.outline c.survey.new.self.accepted c.annotations.new.reader.accepted c.annotation_count.result
+    (string_bytes c.in_ok-annotations-in-Ok.annotations) (string_bytes c.in_ok-line-in-Ok.line) c.survey.ensures.says c.in-Ok.is c.survey.ensures.remembers.0 c.survey.ensures.stays
+    c.annotations.ensures.stays c.annotations.ensures.remembers c.annotation_count.ensures c.in_ok-annotations-in-Ok.ensures.text c.in_ok-line-in-Ok.ensures
     ∙ ap (λ d. tape_text (g.D.Deck.meaning d) c.args.wanted) c.new-reader.ensures.0)
     c.format.ensures.ok

@@ -9,8 +9,8 @@ use Rattle.listing.proofs.runs.count_blocks.Goals as goal
 pub loop-count-init : goal.loop-count-init
 loop-count-init g c = (refl, omega arith)
 
-pub overflow-add-count : goal.overflow-add-count
-overflow-add-count g c = omega (arith, c.loop-count.invariant.1, few-blocks (g.D.Deck.meaning c.args.deck.now) c.args.reel (g.met.D.Deck.sound c.args.deck.now))
+pub overflow_add-count : goal.overflow_add-count
+overflow_add-count g c = omega (arith, c.loop-count.invariant.1, few-blocks (g.D.Deck.meaning c.args.deck.now) c.args.reel (g.met.D.Deck.sound c.args.deck.now))
 
 -- A further block is on the reel.
 more : (g : given.Over) (c : goal.In-loop-count g) → c.loop-count.count < length (reel_of (g.D.Deck.meaning c.args.deck.now) c.args.reel)
@@ -21,8 +21,8 @@ more g c =
     let is = kind_on (g.D.Deck.meaning c.loop-count.deck) set c.args.reel (c.loop-count.count + 1) c.kind.result c.loop-count.invariant.0 c.kind.ensures.value in
     inside xs c.loop-count.count (λ e. some (is ∙ ap kind_of (behind xs c.loop-count.count) ∙ e))
 
-pub overflow-add-count-in-loop-count : goal.overflow-add-count-in-loop-count
-overflow-add-count-in-loop-count g c = omega (arith, more g c, few-blocks (g.D.Deck.meaning c.args.deck.now) c.args.reel (g.met.D.Deck.sound c.args.deck.now))
+pub overflow_add-count-in-loop-count : goal.overflow_add-count-in-loop-count
+overflow_add-count-in-loop-count g c = omega (arith, more g c, few-blocks (g.D.Deck.meaning c.args.deck.now) c.args.reel (g.met.D.Deck.sound c.args.deck.now))
 
 pub loop-count-smaller : goal.loop-count-smaller
 loop-count-smaller g c = omega (arith, more g c)

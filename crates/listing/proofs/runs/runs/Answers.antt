@@ -17,8 +17,8 @@ loop-heap-init g c =
     let is = kind_on (g.D.Deck.meaning c.args.deck.now) set c.args.reel 1 c.kind-kind.result (sym c.kind-kind.ensures.stays) c.kind-kind.ensures.value in
     (refl, subst (λ k. Going xs 1 1 k (string_bytes c.new-text.result)) (sym is) (subst (Going xs 1 1 (kind_of (from_one xs 1))) (sym c.new-text.ensures.bytes) (going_start xs)))
 
-pub overflow-add-block : goal.overflow-add-block
-overflow-add-block g c =
+pub overflow_add-block : goal.overflow_add-block
+overflow_add-block g c =
     let xs = reel_of (g.D.Deck.meaning c.kind-kind.new.self) c.args.reel in
     let some : c.loop-heap.kind ≡ Absent → ⊥ = search rules in
     let there = going_inside xs c.loop-heap.block c.loop-heap.count c.loop-heap.kind (string_bytes c.loop-heap.text) c.loop-heap.invariant.1 some in
@@ -33,8 +33,8 @@ on g c =
     let is = kind_on (g.D.Deck.meaning c.loop-heap.deck) set c.args.reel (c.loop-heap.block + 1) c.kind-next.result c.loop-heap.invariant.0 c.kind-next.ensures.value in
     going_same (reel_of set c.args.reel) c.loop-heap.block c.loop-heap.count c.loop-heap.kind (string_bytes c.loop-heap.text) c.loop-heap.invariant.1 some (sym is ∙ same)
 
-pub overflow-add-count : goal.overflow-add-count
-overflow-add-count g c =
+pub overflow_add-count : goal.overflow_add-count
+overflow_add-count g c =
     omega (arith, (on g c).few, (on g c).is, (on g c).within, few-blocks (g.D.Deck.meaning c.kind-kind.new.self) c.args.reel (g.met.D.Deck.sound c.kind-kind.new.self))
 
 pub loop-heap-smaller-then-eq : goal.loop-heap-smaller-then-eq
@@ -43,18 +43,18 @@ loop-heap-smaller-then-eq g c = omega (arith, (on g c).is, (on g c).within)
 pub loop-heap-preserved-then-eq : goal.loop-heap-preserved-then-eq
 loop-heap-preserved-then-eq g c = (c.kind-next.ensures.stays ∙ c.loop-heap.invariant.0, on g c)
 
-pub returns-in-err-line : goal.returns-in-err-line
-returns-in-err-line g c =
-    let p = err_from_is_err_and c.from-residual.result c.from-residual.ensures.1 in
+pub returns-in_err-line : goal.returns-in_err-line
+returns-in_err-line g c =
+    let p = err_from_is_err_and c.from_residual.result c.from_residual.ensures.1 in
     record { stays = c.kind-next.ensures.stays ∙ c.loop-heap.invariant.0 ∙ c.kind-kind.ensures.stays; text = rw p.1 tt }
 
-pub returns-in-err-push-str : goal.returns-in-err-push-str
-returns-in-err-push-str g c =
-    let p = err_from_is_err_and c.from-residual-in-err-push-str.result c.from-residual-in-err-push-str.ensures.1 in
+pub returns-in_err-push_str : goal.returns-in_err-push_str
+returns-in_err-push_str g c =
+    let p = err_from_is_err_and c.from_residual-in_err-push_str.result c.from_residual-in_err-push_str.ensures.1 in
     record { stays = c.kind-next.ensures.stays ∙ c.loop-heap.invariant.0 ∙ c.kind-kind.ensures.stays; text = rw p.1 tt }
 
 -- The next block begins a run, or there is none.
-new : (g : given.Over) (c : goal.After-drop-line-else-eq g) → Going (reel_of (g.D.Deck.meaning c.kind-kind.new.self) c.args.reel) (c.loop-heap.block + 1) 1 c.kind-next.result (string_bytes c.push-str.new.self)
+new : (g : given.Over) (c : goal.After-drop-line-else-eq g) → Going (reel_of (g.D.Deck.meaning c.kind-kind.new.self) c.args.reel) (c.loop-heap.block + 1) 1 c.kind-next.result (string_bytes c.push_str.new.self)
 new g c =
     let set = g.D.Deck.meaning c.kind-kind.new.self in
     let xs = reel_of set c.args.reel in
@@ -62,9 +62,9 @@ new g c =
     let other : (c.kind-next.result ≡ c.loop-heap.kind) → ⊥ = search rules in
     let is = kind_on (g.D.Deck.meaning c.loop-heap.deck) set c.args.reel (c.loop-heap.block + 1) c.kind-next.result c.loop-heap.invariant.0 c.kind-next.ensures.value in
     let go = going_next xs c.loop-heap.block c.loop-heap.count c.loop-heap.kind (string_bytes c.loop-heap.text) c.loop-heap.invariant.1 some (λ e. other (is ∙ e)) in
-    let line = c.as-str.ensures.value ∙ c.in-ok-line.ensures in
-    let text = pushed c.as-str.result.now refl c.in-ok-push-str.was c.push-str.ensures.bytes ∙ ap (λ t. string_bytes c.loop-heap.text ++ t) line in
-    subst (λ k. Going xs (c.loop-heap.block + 1) 1 k (string_bytes c.push-str.new.self)) (sym is)
+    let line = c.as_str.ensures.value ∙ c.in_ok-line.ensures in
+    let text = pushed c.as_str.result.now refl c.in_ok-push_str.was c.push_str.ensures.bytes ∙ ap (λ t. string_bytes c.loop-heap.text ++ t) line in
+    subst (λ k. Going xs (c.loop-heap.block + 1) 1 k (string_bytes c.push_str.new.self)) (sym is)
     (subst (Going xs (c.loop-heap.block + 1) 1 (kind_of (from_one xs (c.loop-heap.block + 1)))) (sym text) go)
 
 pub loop-heap-smaller : goal.loop-heap-smaller

@@ -6,7 +6,7 @@ use Rattle.std.proofs.lemmas.Bool.Decides.{Decides-eqb}
 
 pub returns-then-eq : goal.returns-then-eq
 returns-then-eq c =
-    same_both c.eq-then-eq.result c.args.first.now c.args.bytes.now (omega (arith, c.type-inv.first)) (omega (arith, c.type-inv.bytes))
+    same_both c.eq-then-eq.result c.args.first.now c.args.bytes.now (omega (arith, c.type_inv.first)) (omega (arith, c.type_inv.bytes))
     (slice_eq-Decides Decides-eqb (take 18 c.args.first.now) (take 18 c.args.bytes.now) true c.if-eq.ensures)
     (slice_eq-Decides Decides-eqb (take 341 (drop 19 c.args.first.now)) (take 341 (drop 19 c.args.bytes.now)) c.eq-then-eq.result c.eq-then-eq.ensures)
 

@@ -7,13 +7,13 @@ pub returns-then-bytes-size : goal.returns-then-bytes-size
 unfolding checked
 returns-then-bytes-size c = record { says = grind (arith, nat_tests); long = grind (arith, nat_tests) }
 
-pub returns-then-byte-at-ne0 : goal.returns-then-byte-at-ne0
+pub returns-then-byte_at-ne0 : goal.returns-then-byte_at-ne0
 unfolding checked
-returns-then-byte-at-ne0 c = record { says = grind (arith, nat_tests); long = grind (arith, nat_tests) }
+returns-then-byte_at-ne0 c = record { says = grind (arith, nat_tests); long = grind (arith, nat_tests) }
 
-pub returns-then-byte-at-kind : goal.returns-then-byte-at-kind
+pub returns-then-byte_at-kind : goal.returns-then-byte_at-kind
 unfolding checked
-returns-then-byte-at-kind c = record { says = grind (arith, nat_tests); long = grind (arith, nat_tests) }
+returns-then-byte_at-kind c = record { says = grind (arith, nat_tests); long = grind (arith, nat_tests) }
 
 pub returns-then-not-numbered : goal.returns-then-not-numbered
 unfolding checked

@@ -13,18 +13,18 @@ loop-reel-init g c =
     let new = c.new-machine.ensures ∙ ap start many in
     (refl, (refl, ap (λ m. feed m 1 set) new))
 
-pub returns-in-err-survey-reel : goal.returns-in-err-survey-reel
-returns-in-err-survey-reel g c =
+pub returns-in_err-survey_reel : goal.returns-in_err-survey_reel
+returns-in_err-survey_reel g c =
     let set = g.D.Deck.meaning c.reels-reels.new.self in
     let inv = c.loop-reel.invariant in
-    let p = err_from_is_err_and c.from-residual.result c.from-residual.ensures.1 in
-    let e = told_fault c.in-err-survey-reel.field-0.0 in
-    let says = subst (λ s. Err e ≡ feed_reel c.loop-reel.machine c.loop-reel.reel 1 (get_or s (c.loop-reel.reel - 1) [])) inv.0 c.in-err-survey-reel.ensures.says in
+    let p = err_from_is_err_and c.from_residual.result c.from_residual.ensures.1 in
+    let e = told_fault c.in_err-survey_reel.field-0.0 in
+    let says = subst (λ s. Err e ≡ feed_reel c.loop-reel.machine c.loop-reel.reel 1 (get_or s (c.loop-reel.reel - 1) [])) inv.0 c.in_err-survey_reel.ensures.says in
     let there : c.loop-reel.reel ≤ length set = omega (arith, c.loop-reel-test.true, c.reels-reels.ensures.value, ap length c.reels-reels.ensures.stays) in
     let fault = reel_fault set c.loop-reel.machine c.loop-reel.reel c.loop-reel.auto.reel there e says in
     let is : Err e ≡ surveyed (g.D.Deck.meaning c.args.deck.now) = fault_of_set set e (fault ∙ inv.1.1) ∙ ap surveyed c.reels-reels.ensures.stays in
     record {
-      stays = c.survey-reel.ensures.stays ∙ inv.0 ∙ c.reels-reels.ensures.stays;
+      stays = c.survey_reel.ensures.stays ∙ inv.0 ∙ c.reels-reels.ensures.stays;
       says = rw (p.1, p.2) is;
       judges = rw (p.1, p.2) (judged (g.D.Deck.meaning c.args.deck.now) (Err e) (g.met.D.Deck.sound c.args.deck.now) is);
     }
@@ -33,10 +33,10 @@ pub loop-reel-preserved : goal.loop-reel-preserved
 loop-reel-preserved g c =
     let set = g.D.Deck.meaning c.reels-reels.new.self in
     let inv = c.loop-reel.invariant in
-    let says = subst (λ s. Ok c.survey-reel.new.machine ≡ feed_reel c.loop-reel.machine c.loop-reel.reel 1 (get_or s (c.loop-reel.reel - 1) [])) inv.0 c.in-ok-survey-reel.ensures.says in
+    let says = subst (λ s. Ok c.survey_reel.new.machine ≡ feed_reel c.loop-reel.machine c.loop-reel.reel 1 (get_or s (c.loop-reel.reel - 1) [])) inv.0 c.in_ok-survey_reel.ensures.says in
     let there : c.loop-reel.reel ≤ length set = omega (arith, c.loop-reel-test.true, c.reels-reels.ensures.value, ap length c.reels-reels.ensures.stays) in
-    let more = reel_more set c.loop-reel.machine c.loop-reel.reel c.loop-reel.auto.reel there c.survey-reel.new.machine says in
-    (c.survey-reel.ensures.stays ∙ inv.0, (c.survey-reel.auto.scratch ∙ inv.1.0, more ∙ inv.1.1))
+    let more = reel_more set c.loop-reel.machine c.loop-reel.reel c.loop-reel.auto.reel there c.survey_reel.new.machine says in
+    (c.survey_reel.ensures.stays ∙ inv.0, (c.survey_reel.auto.scratch ∙ inv.1.0, more ∙ inv.1.1))
 
 pub returns : goal.returns
 returns g c =
@@ -51,5 +51,5 @@ returns g c =
       judges = judged (g.D.Deck.meaning c.args.deck.now) (Ok c.accepted.result) (g.met.D.Deck.sound c.args.deck.now) is;
     }
 
-pub overflow-add-reel-end : goal.overflow-add-reel-end
-overflow-add-reel-end g c = omega (arith, c.reels-reels.ensures.value, (g.met.D.Deck.sound c.args.deck.now).few)
+pub overflow_add-reel-end : goal.overflow_add-reel-end
+overflow_add-reel-end g c = omega (arith, c.reels-reels.ensures.value, (g.met.D.Deck.sound c.args.deck.now).few)

@@ -9,15 +9,15 @@ use Rattle.survey.proofs.reading.take.Goals as goal
 pub unreachable-requires : goal.unreachable-requires
 unreachable-requires g c =
     let set = g.D.Deck.meaning c.args.deck.now in
-    never_short (look set c.args.at.reel c.args.at.block) _ c.in-default.field-0
+    never_short (look set c.args.at.reel c.args.at.block) _ c.in_default.field-0
     (λ xs e. omega (arith, c.requires.room, (look_sound set c.args.at.reel c.args.at.block xs (g.met.D.Deck.sound c.args.deck.now).reels e).1))
-    (sym c.in-default.ensures.value)
+    (sym c.in_default.ensures.value)
 
 pub returns-in-Ok-step : goal.returns-in-Ok-step
 returns-in-Ok-step g c =
     let o = look (g.D.Deck.meaning c.args.deck.now) c.args.at.reel c.args.at.block in
     let f = shown-fetched o c.args.scratch.now c.in-Ok.kind (sym c.in-Ok.ensures.value) in
-    let saw = c.seen-as.ensures ∙ ap (shown_in c.in-Ok.kind) c.fetch.ensures.bytes ∙ f.0 in
+    let saw = c.seen_as.ensures ∙ ap (shown_in c.in-Ok.kind) c.fetch.ensures.bytes ∙ f.0 in
     record {
       stays = c.fetch.ensures.stays;
       says = ap (placed c.args.at) (c.in-Ok-step.ensures ∙ ap (step c.args.machine.now c.args.at) saw);
@@ -28,7 +28,7 @@ pub returns-in-Err : goal.returns-in-Err
 returns-in-Err g c =
     let o = look (g.D.Deck.meaning c.args.deck.now) c.args.at.reel c.args.at.block in
     let f = shown-fetched o c.args.scratch.now c.in-Ok.kind (sym c.in-Ok.ensures.value) in
-    let saw = c.seen-as.ensures ∙ ap (shown_in c.in-Ok.kind) c.fetch.ensures.bytes ∙ f.0 in
+    let saw = c.seen_as.ensures ∙ ap (shown_in c.in-Ok.kind) c.fetch.ensures.bytes ∙ f.0 in
     record {
       stays = c.fetch.ensures.stays;
       says = ap Err (told_is c.in-Err.cause c.args.at) ∙ ap (placed c.args.at) (c.in-Err.ensures ∙ ap (step c.args.machine.now c.args.at) saw);

@@ -7,7 +7,7 @@ pub loop-code-preserved : goal.loop-code-preserved
 loop-code-preserved c =
     let codes = c.args.codes.now in
     let i = c.loop-code.code-index in
-    let bit : c.weight-mask.result ≡ weight (get_or codes i 0 - 4) = c.weight-mask.ensures ∙ ap weight c.saturating-sub.ensures in
+    let bit : c.weight-mask.result ≡ weight (get_or codes i 0 - 4) = c.weight-mask.ensures ∙ ap weight c.saturating_sub.ensures in
     let more = mask_more codes i (omega arith) in
     let least = weight_small (get_or codes i 0 - 4) in
     (omega (arith, bit, least, c.loop-code.invariant.0), omega (arith, bit, more, c.loop-code.invariant.1))

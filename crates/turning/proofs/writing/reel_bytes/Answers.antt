@@ -8,12 +8,12 @@ use Rattle.turning.specs.Written.{block_at, told_bytes}
 use Rattle.turning.proofs.Strips.{on, going_inside, going_next, going_done}
 use Rattle.turning.proofs.writing.reel_bytes.Goals as goal
 
-pub overflow-add-block : goal.overflow-add-block
-overflow-add-block g c =
+pub overflow_add-block : goal.overflow_add-block
+overflow_add-block g c =
     let set = g.D.Deck.meaning c.args.deck.now in
     let xs = reel_of set c.args.reel in
     let stored : Some (vec_items c.in-Some.stored) ≡ block_at (from_one xs c.loop-bytes.block) =
-    on (g.D.Deck.meaning c.loop-bytes.deck) set c.args.reel c.loop-bytes.block (Some (vec_items c.in-Some.stored)) c.loop-bytes.invariant.0 (sym (ap told_bytes c.in-Some.is) ∙ c.in-ok-stored.ensures.bytes) in
+    on (g.D.Deck.meaning c.loop-bytes.deck) set c.args.reel c.loop-bytes.block (Some (vec_items c.in-Some.stored)) c.loop-bytes.invariant.0 (sym (ap told_bytes c.in-Some.is) ∙ c.in_ok-stored.ensures.bytes) in
     let inside = going_inside xs c.loop-bytes.block (vec_items c.loop-bytes.bytes) (vec_items c.in-Some.stored) c.loop-bytes.invariant.1 stored in
     omega (arith, inside, few-blocks set c.args.reel (g.met.D.Deck.sound c.args.deck.now))
 
@@ -22,7 +22,7 @@ loop-bytes-smaller g c =
     let set = g.D.Deck.meaning c.args.deck.now in
     let xs = reel_of set c.args.reel in
     let stored : Some (vec_items c.in-Some.stored) ≡ block_at (from_one xs c.loop-bytes.block) =
-    on (g.D.Deck.meaning c.loop-bytes.deck) set c.args.reel c.loop-bytes.block (Some (vec_items c.in-Some.stored)) c.loop-bytes.invariant.0 (sym (ap told_bytes c.in-Some.is) ∙ c.in-ok-stored.ensures.bytes) in
+    on (g.D.Deck.meaning c.loop-bytes.deck) set c.args.reel c.loop-bytes.block (Some (vec_items c.in-Some.stored)) c.loop-bytes.invariant.0 (sym (ap told_bytes c.in-Some.is) ∙ c.in_ok-stored.ensures.bytes) in
     let inside = going_inside xs c.loop-bytes.block (vec_items c.loop-bytes.bytes) (vec_items c.in-Some.stored) c.loop-bytes.invariant.1 stored in
     omega (arith, inside)
 
@@ -31,10 +31,10 @@ loop-bytes-preserved g c =
     let set = g.D.Deck.meaning c.args.deck.now in
     let xs = reel_of set c.args.reel in
     let stored : Some (vec_items c.in-Some.stored) ≡ block_at (from_one xs c.loop-bytes.block) =
-    on (g.D.Deck.meaning c.loop-bytes.deck) set c.args.reel c.loop-bytes.block (Some (vec_items c.in-Some.stored)) c.loop-bytes.invariant.0 (sym (ap told_bytes c.in-Some.is) ∙ c.in-ok-stored.ensures.bytes) in
-    let after = pushed c.as-slice.result.now refl c.in-ok-extend-from-slice.was c.extend-from-slice.ensures.items ∙ ap (λ t. vec_items c.loop-bytes.bytes ++ t) c.as-slice.ensures.value in (
+    on (g.D.Deck.meaning c.loop-bytes.deck) set c.args.reel c.loop-bytes.block (Some (vec_items c.in-Some.stored)) c.loop-bytes.invariant.0 (sym (ap told_bytes c.in-Some.is) ∙ c.in_ok-stored.ensures.bytes) in
+    let after = pushed c.as_slice.result.now refl c.in_ok-extend_from_slice.was c.extend_from_slice.ensures.items ∙ ap (λ t. vec_items c.loop-bytes.bytes ++ t) c.as_slice.ensures.value in (
       c.block_bytes.ensures.stays ∙ c.loop-bytes.invariant.0,
-      going_next xs c.loop-bytes.block (vec_items c.loop-bytes.bytes) (vec_items c.in-Some.stored) (vec_items c.extend-from-slice.new.self) c.loop-bytes.invariant.1 stored after,
+      going_next xs c.loop-bytes.block (vec_items c.loop-bytes.bytes) (vec_items c.in-Some.stored) (vec_items c.extend_from_slice.new.self) c.loop-bytes.invariant.1 stored after,
     )
 
 pub returns : goal.returns
@@ -42,11 +42,11 @@ returns g c =
     let set = g.D.Deck.meaning c.args.deck.now in
     let xs = reel_of set c.args.reel in
     let none : None ≡ block_at (from_one xs c.loop-bytes.block) =
-    on (g.D.Deck.meaning c.loop-bytes.deck) set c.args.reel c.loop-bytes.block None c.loop-bytes.invariant.0 (sym (ap told_bytes c.in-default.is) ∙ c.in-ok-stored.ensures.bytes) in
+    on (g.D.Deck.meaning c.loop-bytes.deck) set c.args.reel c.loop-bytes.block None c.loop-bytes.invariant.0 (sym (ap told_bytes c.in_default.is) ∙ c.in_ok-stored.ensures.bytes) in
     let all = going_done xs c.loop-bytes.block (vec_items c.loop-bytes.bytes) c.loop-bytes.invariant.1 none in
     record {
       stays = c.block_bytes.ensures.stays ∙ c.loop-bytes.invariant.0;
-      bytes = pushed c.as-slice-2.result.now refl c.in-ok-extend-from-slice-2.was c.extend-from-slice-2.ensures.items
-          ∙ ap (λ t. vec_items c.loop-bytes.bytes ++ t) (c.as-slice-2.ensures.value ∙ c.in-ok-end.ensures)
+      bytes = pushed c.as_slice-2.result.now refl c.in_ok-extend_from_slice-2.was c.extend_from_slice-2.ensures.items
+          ∙ ap (λ t. vec_items c.loop-bytes.bytes ++ t) (c.as_slice-2.ensures.value ∙ c.in_ok-end.ensures)
           ∙ ap (λ t. t ++ word 4294967294) all;
     }

@@ -8,10 +8,10 @@ pub loop-reel-preserved : goal.loop-reel-preserved
 loop-reel-preserved g c =
     let set = g.D.Deck.meaning c.reels-reels.new.self in (
       c.reel_bytes.ensures.stays ∙ c.loop-reel.invariant.0,
-      written_next set (g.D.Deck.meaning c.loop-reel.deck) c.loop-reel.reel (vec_items c.loop-reel.bytes) c.as-slice.result.now (vec_items c.extend-from-slice.new.self)
+      written_next set (g.D.Deck.meaning c.loop-reel.deck) c.loop-reel.reel (vec_items c.loop-reel.bytes) c.as_slice.result.now (vec_items c.extend_from_slice.new.self)
           c.loop-reel.invariant.1 (omega (arith, c.loop-reel-test.true, c.reels-reels.ensures.value, ap length c.reels-reels.ensures.stays)) c.loop-reel.invariant.0
-          (c.as-slice.ensures.value ∙ c.in-ok-written.ensures.bytes)
-          (pushed c.as-slice.result.now refl c.in-ok-extend-from-slice.was c.extend-from-slice.ensures.items),
+          (c.as_slice.ensures.value ∙ c.in_ok-written.ensures.bytes)
+          (pushed c.as_slice.result.now refl c.in_ok-extend_from_slice.was c.extend_from_slice.ensures.items),
     )
 
 pub returns : goal.returns

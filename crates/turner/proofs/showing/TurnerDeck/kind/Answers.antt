@@ -6,18 +6,18 @@ use Rattle.turner.specs.ChangesLemmas.{length_changed}
 use Rattle.turner.specs.Sounds.{at_piece, kind_shown}
 use Rattle.turner.proofs.showing.TurnerDeck.kind.Goals as goal
 
-pub returns-in-Some-piece-on : goal.returns-in-Some-piece-on
-returns-in-Some-piece-on g c =
+pub returns-in-Some-piece_on : goal.returns-in-Some-piece_on
+returns-in-Some-piece_on g c =
     let set = g.D.Deck.meaning c.args.self.now.deck in
     let turning = c.in-Some.turning in
-    let piece = c.in-Some-piece-on.piece in
-    let there = at_piece c.args.self.now.turning turning set c.args.reel c.args.block (Some piece) c.in-Some.is (sym c.in-Some-piece-on.is ∙ c.piece_on.ensures) in
+    let piece = c.in-Some-piece_on.piece in
+    let there = at_piece c.args.self.now.turning turning set c.args.reel c.args.block (Some piece) c.in-Some.is (sym c.in-Some-piece_on.is ∙ c.piece_on.ensures) in
     record {
-      stays = ap (shown c.args.self.now.turning) c.kind-from.ensures.stays;
+      stays = ap (shown c.args.self.now.turning) c.kind_from.ensures.stays;
       value =
-          c.kind-from.ensures.value
-          ∙ kind_shown (changed turning piece) (length_changed turning piece) set c.source-of.result c.source-of.ensures.sized
-          ∙ ap (λ s. kind_of (Some (source_block (changed turning piece) set s))) c.source-of.ensures.is
+          c.kind_from.ensures.value
+          ∙ kind_shown (changed turning piece) (length_changed turning piece) set c.source_of.result c.source_of.ensures.sized
+          ∙ ap (λ s. kind_of (Some (source_block (changed turning piece) set s))) c.source_of.ensures.is
           ∙ sym (ap kind_of there);
     }
 
