@@ -4,7 +4,6 @@ use Rattle.std.specs.List.{flat_map}
 use Rattle.std.proofs.lemmas.List.{drop-drop, take-append-le, take_all, get_or-set_same, get_or-set_other, get_or_append_left, get_or_at}
 use Rattle.std.proofs.lemmas.Bool.{cases_eq}
 use Rattle.deck.specs.Tape.{Reel, TapeSet}
-use Rattle.deck.specs.Words.{word}
 use Rattle.image.specs.Stored.{Verdict, set_of, block}
 use Rattle.image.specs.Strip.{block_bytes, encoded, size, next, follow, judge, verdict, meant}
 use Rattle.image.specs.Chart.{no_reels, with_reel, Charts}
@@ -14,8 +13,8 @@ use Rattle.image.specs.declared.stored.Stored.{Stored}
 use Rattle.image.specs.declared.stored.Stored.TheVariants.{Record, Mark, Bad}
 use Rattle.image.specs.declared.next.Next.{Next}
 use Rattle.image.specs.declared.next.Next.TheVariants.{Finished, ReelEnds, Holds}
-use Rattle.image.specs.Words.{Bytes}
-use Rattle.image.specs.Strips.{ends, held, Closed, encoded_more, blocks_more, judged_spells}
+use Rattle.image.proofs.Words.{Bytes}
+use Rattle.image.proofs.Strips.{ends, held, Closed, encoded_more, blocks_more, judged_spells}
 
 -- Some reels and blocks of the next have been read, and what is left decides.
 pub record Going (xs : List ℕ) (c : Chart) (blocks at : ℕ) : Type 0 where

@@ -6,10 +6,4 @@ pub mod Cursor
 pub mod Found
 pub mod Indexed
 pub mod Opened
-pub mod Listings
-pub mod Indices
-pub mod Rows
-pub mod Places
-pub mod Words
-pub mod Strips
-pub mod Openings
+pub mod Sole

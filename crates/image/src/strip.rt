@@ -1,5 +1,7 @@
 // The strip: a tape set written from its first block to its last.
 ghost use Rattle.std.specs.Prelude.{◌≡◌, ℕ, ◌<◌, ◌≤◌, true, [], length, take, is_ok, slice_index, slice_index_or};
+ghost use Rattle.deck.specs.Tape.{Sound};
+ghost use Rattle.image.specs.Sole.{sole};
 ghost use Rattle.image.specs.Strip.{encoded, verdict, meant, place};
 
 use super::chart::Chart;
@@ -16,6 +18,7 @@ pub struct Strip {
     chart: Chart,
     cursor: Cursor,
     ghost judged: { is_ok (verdict bytes.items) ≡ true },
+    ghost sound: { Sound (meant bytes.items) } by { sole (meant bytes.items) },
     ghost spells: { encoded (meant bytes.items) ≡ bytes.items },
     ghost few: { chart.reels ≤ 9 },
     ghost many: { chart.reels ≡ length (meant bytes.items) },

@@ -1,3 +1,5 @@
 // Images at their edges.
+#![tactic(auto)]
+
 #[cfg(test)]
 mod tests;

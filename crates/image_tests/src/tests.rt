@@ -324,11 +324,14 @@ fn overlapping(rt: HostRuntime) -> Result<(), Fail> {
 #[test]
 fn bytes_back(rt: HostRuntime) -> Result<(), Fail> {
     let bytes = spelt(rt.alloc(), &[0, 4294967294], b"")?;
-    assert!(rt; opened(Strip::open(bytes))?.into_bytes().as_slice() == b"\0\0\0\0\xff\xff\xff\xfe");
+    assert!(rt;
+        opened(Strip::open(bytes))?.into_bytes().as_slice()
+            == b"\0\0\0\0\xff\xff\xff\xfe".as_slice()
+    );
     let bytes = spelt(rt.alloc(), &[1, 1, 16, 1], b"a!")?;
     assert!(rt;
         opened(Indexed::open(bytes))?.into_bytes().as_slice()
-            == b"\0\0\0\x01\0\0\0\x01\0\0\0\x10\0\0\0\x01a!"
+            == b"\0\0\0\x01\0\0\0\x01\0\0\0\x10\0\0\0\x01a!".as_slice()
     );
     Ok(())
 }

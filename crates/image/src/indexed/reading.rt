@@ -5,7 +5,6 @@ ghost use Rattle.deck.specs.Tape.{look};
 ghost use Rattle.image.specs.Found.{Inside, seen, shown_kind};
 ghost use Rattle.image.specs.Indexed.{blocks, verdict, meant};
 ghost use Rattle.image.specs.Opened.{indexed_set};
-ghost use Rattle.image.specs.Listings.{opened};
 
 use super::super::found::{Found, deliver, listed_at};
 use super::super::word::known_word;
@@ -68,7 +67,7 @@ fn find(bytes: &[u8], reel: u32, block: u32) -> Found
 impl Deck for Indexed {
     ghost meaning = { indexed_set };
 
-    ghost sound = { λ i. (opened i.bytes.items i.judged).0 };
+    ghost sound = { λ i. i.sound };
 
     fn reels(&mut self) -> u32 {
         reel_count(self.bytes.as_slice())

@@ -5,9 +5,6 @@ ghost use Rattle.deck.specs.Tape.{look};
 ghost use Rattle.image.specs.Cursor.{Stands};
 ghost use Rattle.image.specs.Found.{Inside, seen, shown_kind};
 ghost use Rattle.image.specs.Opened.{strip_set};
-ghost use Rattle.image.specs.Strip.{verdict};
-ghost use Rattle.image.specs.Openings.{is_set};
-ghost use Rattle.image.specs.Strips.{judged_sound};
 
 use super::super::cursor::{Cursor, wind};
 use super::super::found::{Found, deliver, found_at};
@@ -57,7 +54,7 @@ impl Strip {
 impl Deck for Strip {
     ghost meaning = { strip_set };
 
-    ghost sound = { λ s. judged_sound s.bytes.items (strip_set s) (is_set (verdict s.bytes.items) s.judged) };
+    ghost sound = { λ s. s.sound };
 
     fn reels(&mut self) -> u32 {
         self.chart.reels as u32

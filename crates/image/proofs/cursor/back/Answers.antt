@@ -3,7 +3,7 @@ use Rattle.deck.specs.Tape.{mark}
 use Rattle.image.specs.Cursor.{Stands}
 use Rattle.image.specs.Strip.{size, meant}
 use Rattle.image.proofs.Options.{none_some, some_same}
-use Rattle.image.specs.Places.{stands_behind, size_four}
+use Rattle.image.proofs.Places.{stands_behind, size_four}
 use Rattle.image.proofs.cursor.back.Goals as goal
 
 pub overflow_sub-c : goal.overflow_sub-c

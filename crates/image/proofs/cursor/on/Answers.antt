@@ -3,8 +3,8 @@ use Rattle.image.specs.Cursor.{Stands}
 use Rattle.image.specs.Strip.{size, meant}
 use Rattle.image.proofs.Options.{none_some, some_same}
 use Rattle.deck.proofs.Looks.{reel_sound}
-use Rattle.image.specs.Places.{stands_on}
-use Rattle.image.specs.Strips.{judged_sound}
+use Rattle.image.proofs.Places.{stands_on}
+use Rattle.image.proofs.Strips.{judged_sound}
 use Rattle.image.proofs.cursor.on.Goals as goal
 
 pub unreachable-requires : goal.unreachable-requires

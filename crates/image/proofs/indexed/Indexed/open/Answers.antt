@@ -1,11 +1,19 @@
-use Rattle.std.proofs.Common.{◌≡◌, ℕ, is_ok, Ok, Err, vec_items, sym, refl, ap, ◌∙◌, subst}
+use Rattle.std.proofs.Common.{◌≡◌, ℕ, true, is_ok, Ok, Err, vec_items, sym, refl, ap, ◌∙◌, subst}
 use Rattle.image.specs.Indexed.{Encodes, passed, verdict, meant}
 use Rattle.image.specs.Opened.{Exactly}
 use Rattle.image.specs.Stored.{number}
-use Rattle.image.specs.Indices.{exactly_judged}
-use Rattle.image.specs.Openings.{is_set}
-use Rattle.image.specs.Rows.{and_then_ok, passed_err}
+use Rattle.image.proofs.Indices.{exactly_judged}
+use Rattle.image.proofs.Listings.{opened}
+use Rattle.image.proofs.Openings.{is_set}
+use Rattle.image.proofs.Rows.{and_then_ok, passed_err}
 use Rattle.image.proofs.indexed.Indexed.open.Goals as goal
+
+pub invariant_of-result : goal.invariant_of-result
+invariant_of-result c =
+    let xs = vec_items c.args.bytes in
+    let v = and_then_ok (verdict xs) (λ _. Ok tt) tt (ap (λ ys. passed (verdict ys)) (sym c.as_slice.ensures.value) ∙ sym c.in-Ok.ensures) in
+    let judged : is_ok (verdict xs) ≡ true = ap is_ok v.1 in
+    record { judged = judged; sound = (opened xs judged).0 }
 
 pub returns-in-Ok : goal.returns-in-Ok
 returns-in-Ok c =

@@ -1,7 +1,7 @@
 use Rattle.std.proofs.Common.{◌+◌, ◌*◌, Ok, sym, refl, ◌∙◌, arith}
 use Rattle.std.proofs.lemmas.Result.{err_from_is_err_and}
 use Rattle.image.specs.Indexed.{first_entry, header, entry}
-use Rattle.image.specs.Rows.{and_then_ok, passed_err, row_on, row_stops}
+use Rattle.image.proofs.Rows.{and_then_ok, passed_err, row_on, row_stops}
 use Rattle.image.proofs.indexed.check.check_entries.Goals as goal
 
 pub returns-in_err-check_entry : goal.returns-in_err-check_entry

@@ -1,8 +1,8 @@
 use Rattle.std.proofs.Common.{◌+◌, ◌*◌, Ok, sum, sym, ◌∙◌, arith}
 use Rattle.std.proofs.lemmas.Result.{err_from_is_err_and}
 use Rattle.image.specs.Indexed.{block_count}
-use Rattle.image.specs.Indices.{count_says, sum_on}
-use Rattle.image.specs.Rows.{row_on, row_stops}
+use Rattle.image.proofs.Indices.{count_says, sum_on}
+use Rattle.image.proofs.Rows.{row_on, row_stops}
 use Rattle.image.proofs.indexed.check.total_blocks.Goals as goal
 
 pub returns-in_err-blocks : goal.returns-in_err-blocks

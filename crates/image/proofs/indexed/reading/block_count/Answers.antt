@@ -1,6 +1,6 @@
 use Rattle.std.proofs.Common.{◌∙◌, arith}
 use Rattle.image.specs.Indexed.{meant}
-use Rattle.image.specs.Listings.{opened}
+use Rattle.image.proofs.Listings.{opened}
 use Rattle.deck.proofs.Looks.{reel_sound}
 use Rattle.image.proofs.indexed.reading.block_count.Goals as goal
 

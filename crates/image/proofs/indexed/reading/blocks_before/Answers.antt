@@ -1,8 +1,8 @@
 use Rattle.std.proofs.Common.{[], arith}
 use Rattle.deck.specs.Tape.{Reel}
 use Rattle.image.specs.Indexed.{meant}
-use Rattle.image.specs.Listings.{opened}
-use Rattle.image.specs.Places.{joined_length}
+use Rattle.image.proofs.Listings.{opened}
+use Rattle.image.proofs.Places.{joined_length}
 use Rattle.image.proofs.indexed.reading.blocks_before.Goals as goal
 
 pub overflow_add-before : goal.overflow_add-before

@@ -3,7 +3,7 @@ use Rattle.deck.proofs.Looks.{look_no_reel, look_no_block}
 use Rattle.deck.specs.Answers.{kind_of}
 use Rattle.image.specs.Found.{seen, shown_kind, Inside}
 use Rattle.image.specs.Indexed.{meant}
-use Rattle.image.specs.Listings.{Listed, listed_there}
+use Rattle.image.proofs.Listings.{Listed, listed_there}
 use Rattle.image.proofs.indexed.reading.find.Goals as goal
 
 pub returns-then-on-reels : goal.returns-then-on-reels

@@ -1,5 +1,5 @@
 use Rattle.std.proofs.Common.{◌∙◌}
-use Rattle.image.specs.Listings.{opened}
+use Rattle.image.proofs.Listings.{opened}
 use Rattle.image.proofs.indexed.reading.reel_count.Goals as goal
 
 pub known_word-requires : goal.known_word-requires

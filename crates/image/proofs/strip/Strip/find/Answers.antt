@@ -5,8 +5,8 @@ use Rattle.image.specs.Cursor.{Stands}
 use Rattle.image.specs.Found.{seen, Inside, found_at}
 use Rattle.image.specs.Opened.{strip_set}
 use Rattle.image.specs.Strip.{verdict}
-use Rattle.image.specs.Openings.{is_set}
-use Rattle.image.specs.Places.{found_there, kind_seen}
+use Rattle.image.proofs.Openings.{is_set}
+use Rattle.image.proofs.Places.{found_there, kind_seen}
 use Rattle.image.proofs.strip.Strip.find.Goals as goal
 
 pub returns-then-on-self : goal.returns-then-on-self

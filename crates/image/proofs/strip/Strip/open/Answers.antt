@@ -2,17 +2,19 @@ use Rattle.std.proofs.Common.{◌≡◌, ◌≤◌, is_ok, Err, vec_items, sym, 
 use Rattle.image.specs.Scan.{Scanned}
 use Rattle.image.specs.Stored.{number}
 use Rattle.image.specs.Strip.{verdict, meant}
-use Rattle.image.specs.Openings.{exactly_opened, exactly_refused, at_start}
-use Rattle.image.specs.Strips.{judged_sound}
+use Rattle.image.proofs.Openings.{exactly_opened, exactly_refused, at_start}
+use Rattle.image.proofs.Strips.{judged_sound}
 use Rattle.image.proofs.strip.Strip.open.Goals as goal
 
 pub invariant_of-result : goal.invariant_of-result
 invariant_of-result c =
     let s = subst (λ xs. Scanned xs c.in-Ok.chart) c.as_slice.ensures.value c.in-Ok.ensures in
-    let few : c.in-Ok.chart.reels ≤ 9 = omega (arith, s.charted.many, (judged_sound (vec_items c.args.bytes) (meant (vec_items c.args.bytes)) s.reads.judged).few) in
+    let sound = judged_sound (vec_items c.args.bytes) (meant (vec_items c.args.bytes)) s.reads.judged in
+    let few : c.in-Ok.chart.reels ≤ 9 = omega (arith, s.charted.many, sound.few) in
     let start = at_start (vec_items c.args.bytes) s.reads in
     record {
       judged = ap is_ok s.reads.judged;
+      sound = sound;
       spells = s.reads.spells;
       few = few;
       many = s.charted.many;

@@ -13,7 +13,7 @@ use Rattle.image.specs.declared.stored.Stored.{Stored}
 use Rattle.image.specs.declared.stored.Stored.TheVariants.{Record, Mark, Bad}
 use Rattle.image.specs.declared.next.Next.{Next}
 use Rattle.image.specs.declared.next.Next.TheVariants.{Finished, ReelEnds, Holds}
-use Rattle.image.specs.Words.{Bytes, bytes_drop, value_word, word_value}
+use Rattle.image.proofs.Words.{Bytes, bytes_drop, value_word, word_value}
 
 -- What is known where a word ends a strip, ends a reel, or is a block's.
 pub finished : (at reels blocks : ℕ) (xs : List ℕ) → next at reels blocks xs ≡ Ok Finished → (length xs ≡ 0) × (0 < reels) × (blocks ≡ 0)

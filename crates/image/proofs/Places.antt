@@ -6,7 +6,7 @@ use Rattle.std.specs.List.{flat_map}
 use Rattle.std.proofs.lemmas.List.{drop_at, drop-drop}
 use Rattle.std.proofs.lemmas.Bool.{le-ltb, cond-false}
 use Rattle.std.proofs.lemmas.Bool.Decides.{nat_tests}
-use Rattle.deck.specs.Tape.{Block, written, mark, bad, Reel, TapeSet, SoundBlock, SoundBlocks, SoundReels, look}
+use Rattle.deck.specs.Tape.{Block, written, mark, bad, TapeSet, SoundBlock, look}
 use Rattle.deck.specs.Answers.{kind_of}
 use Rattle.deck.specs.declared.Kind.TheVariants as kinds
 use Rattle.deck.specs.Words.{word, value}
@@ -19,9 +19,8 @@ use Rattle.image.specs.Found.{seen, Inside, shown_kind, found_if, found_at}
 use Rattle.image.specs.declared.found.Found.{Found}
 use Rattle.image.specs.declared.found.Found.TheVariants as founds
 use Rattle.image.specs.declared.stored.Stored.{Stored}
-use Rattle.image.specs.declared.stored.Stored.TheVariants.{Record, Mark, Bad}
-use Rattle.image.specs.Words.{value_word}
-use Rattle.image.specs.Strips.{word_of, size_of, block_of, judged_sound}
+use Rattle.image.proofs.Words.{value_word}
+use Rattle.image.proofs.Strips.{word_of, size_of, block_of, judged_sound}
 
 -- One part of what is joined, with what stands before it and behind it.
 pub joined_at : {X A : Type 0} (f : X → List A) (xs : List X) (i : ℕ) (d : X) → i < length xs → flat_map f xs ≡ flat_map f (take i xs) ++ (f (slice_index_or xs i d) ++ flat_map f (drop (i + 1) xs))

@@ -12,10 +12,10 @@ use Rattle.image.specs.Opened.{Exactly}
 use Rattle.image.specs.Stored.{Verdict, stored, stored_as}
 use Rattle.image.specs.declared.stored.Stored.{Stored}
 use Rattle.image.specs.declared.stored.Stored.TheVariants.{Record, Mark, Bad}
-use Rattle.image.specs.Rows.{and_then_ok, row_length, row_at, row_from}
+use Rattle.image.proofs.Rows.{and_then_ok, row_length, row_at, row_from}
 use Rattle.deck.proofs.Looks.{block_sound, reel_sound}
-use Rattle.image.specs.Places.{stored_word}
-use Rattle.image.specs.Strips.{past, chosen, word_of, stored_is}
+use Rattle.image.proofs.Places.{stored_word}
+use Rattle.image.proofs.Strips.{past, chosen, word_of, stored_is}
 
 -- A word that is read, and one that is there.
 pub whole_says : (xs : List ℕ) (at n : ℕ) → whole xs at ≡ Ok n → says xs at n

@@ -6,7 +6,7 @@ use Rattle.image.specs.Cursor.{Reads, Stands}
 use Rattle.image.specs.Opened.{Exactly}
 use Rattle.image.specs.Stored.{Verdict, set_of}
 use Rattle.image.specs.Strip.{encoded, verdict, meant}
-use Rattle.image.specs.Strips.{judged_sound, judged_encoded}
+use Rattle.image.proofs.Strips.{judged_sound, judged_encoded}
 
 -- A verdict that is a set is that of its own set.
 pub is_set : (v : Verdict TapeSet) → is_ok v ≡ true → v ≡ Ok (set_of v)

@@ -10,10 +10,10 @@ use Rattle.image.specs.Cursor.{stored_at}
 use Rattle.image.specs.Found.{seen, Inside, shown_kind, found_if, listed_at}
 use Rattle.image.specs.Indexed.{blocks, first_entry, header, Entry, Encodes, verdict, meant}
 use Rattle.image.specs.Stored.{stored_as}
-use Rattle.image.specs.Indices.{judged}
-use Rattle.image.specs.Openings.{is_set}
+use Rattle.image.proofs.Indices.{judged}
+use Rattle.image.proofs.Openings.{is_set}
 use Rattle.deck.proofs.Looks.{block_sound, reel_sound}
-use Rattle.image.specs.Places.{joined_at, stored_there, kind_seen}
+use Rattle.image.proofs.Places.{joined_at, stored_there, kind_seen}
 
 -- An opened image is the image of the set that it means.
 pub opened : (xs : List ℕ) → is_ok (verdict xs) ≡ true → Sound (meant xs) × Encodes xs (meant xs)
