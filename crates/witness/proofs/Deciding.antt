@@ -1,5 +1,5 @@
 -- Two answers are equal exactly where all that they say is, and their buffers are, byte by byte.
-use Rattle.std.proofs.Common.{◌≡◌, ℕ, ◌+◌, ◌==◌, Bool, true, false, ◌&&◌, Ok, Err, Result, Decides, sym, refl, ap, ◌∙◌, true≢false, vec_items, arith}
+use Rattle.std.proofs.Common.{◌≡◌, ℕ, ◌+◌, ◌*◌, ◌==◌, Bool, true, false, ◌&&◌, Ok, Err, Result, Decides, sym, refl, ap, ◌∙◌, true≢false, vec_items, arith}
 use Rattle.std.specs.Cmp.Lexicographic.{pointwise}
 use Rattle.std.proofs.lemmas.Bool.Decides.{Decides-eqb}
 use Rattle.std.proofs.lemmas.Slice.Eq.{slice_eq-Decides}
@@ -99,7 +99,7 @@ by_equal d to from = (λ t. to (d.0 t), λ q. d.1 (from q))
 abbrev Said : Cause → ℕ × ℕ
 Said c = (number c, layer c)
 
-cause_decides : (x y : Cause) → Decides ((causes_eq.ghosts).eq x y) (Said x ≡ Said y)
+cause_decides : (x y : Cause) → Decides ((causes_eq.ghosts).eq x y) (◌≡◌ {A = ℕ × ℕ} (Said x) (Said y))
 cause_decides (Deck x) (Deck y) = by_equal (bare deck_faults deck_number 11 deck_numbered x y) (λ e. ap (λ n. (n, 1)) e) (λ e. ap (λ p. p.0) e)
 cause_decides (Deck x) (Record y) = never (λ e. let z : ◌≡◌ {A = ℕ} 1 2 = ap (λ p. p.1) e in omega arith)
 cause_decides (Deck x) (Set y) = never (λ e. let z : ◌≡◌ {A = ℕ} 1 3 = ap (λ p. p.1) e in omega arith)
@@ -110,16 +110,19 @@ cause_decides (Set x) (Deck y) = never (λ e. let z : ◌≡◌ {A = ℕ} 3 1 = 
 cause_decides (Set x) (Record y) = never (λ e. let z : ◌≡◌ {A = ℕ} 3 2 = ap (λ p. p.1) e in omega arith)
 cause_decides (Set x) (Set y) = by_equal (bare set_faults set_number 31 set_numbered x y) (λ e. ap (λ n. (n, 3)) e) (λ e. ap (λ p. p.0) e)
 
-four : (a b c d a' b' c' d' : ℕ) → (a, b) ≡ (a', b') → c ≡ c' → d ≡ d' → ◌≡◌ {A = Fault} (a, b, c, d) (a', b', c', d')
-four a b c d a' b' c' d' p q r = cc
+both_and : (a b : Bool) {P Q : Type 0} → Decides a P → Decides b Q → Decides (a && b) (P × Q)
+both_and a b p q = both a b p q (λ x y. (x, y)) (λ w. w.0) (λ w. w.1)
+
+four : (a b c d a' b' c' d' : ℕ) → a ≡ a' → b ≡ b' → c ≡ c' → d ≡ d' → ◌≡◌ {A = Fault} (a, b, c, d) (a', b', c', d')
+four a b c d a' b' c' d' p q r s = cc
 
 fault_decides : (x y : TapeFault) → Decides ((faults_eq.ghosts).eq x y) (told_fault x ≡ told_fault y)
 fault_decides x y =
-    both ((causes_eq.ghosts).eq x.cause y.cause) (x.reel == y.reel && x.block == y.block) (cause_decides x.cause y.cause)
-    (both (x.reel == y.reel) (x.block == y.block) (Decides-eqb x.reel y.reel) (Decides-eqb x.block y.block) pair (λ e. ap (λ p. p.0) e) (λ e. ap (λ p. p.1) e))
-    (λ p q. four (number x.cause) (layer x.cause) x.reel x.block (number y.cause) (layer y.cause) y.reel y.block p (ap (λ w. w.0) q) (ap (λ w. w.1) q))
-    (λ e. pair (ap (λ (w : Fault). w.0) e) (ap (λ (w : Fault). w.1) e))
-    (λ e. pair (ap (λ (w : Fault). w.2) e) (ap (λ (w : Fault). w.3) e))
+    by_equal
+    (both_and ((causes_eq.ghosts).eq x.cause y.cause) (x.reel == y.reel && x.block == y.block) (cause_decides x.cause y.cause)
+    (both_and (x.reel == y.reel) (x.block == y.block) (Decides-eqb x.reel y.reel) (Decides-eqb x.block y.block)))
+    (λ w. four (number x.cause) (layer x.cause) x.reel x.block (number y.cause) (layer y.cause) y.reel y.block (ap (λ (p : ℕ × ℕ). p.0) w.0) (ap (λ (p : ℕ × ℕ). p.1) w.0) w.1.0 w.1.1)
+    (λ e. (pair (ap (λ (w : Fault). w.0) e) (ap (λ (w : Fault). w.1) e), (ap (λ (w : Fault). w.2) e, ap (λ (w : Fault). w.3) e)))
 
 layer_some : (c : Cause) → layer c ≡ 0 → ⊥
 layer_some (Deck f) e = omega (arith, e)
@@ -131,3 +134,90 @@ refusal_decides (Tape x) (Tape y) = fault_decides x y
 refusal_decides (Tape x) (Caller y) = never (λ e. layer_some x.cause (ap (λ (w : Fault). w.1) e))
 refusal_decides (Caller x) (Tape y) = never (λ e. layer_some y.cause (sym (ap (λ (w : Fault). w.1) e)))
 refusal_decides (Caller x) (Caller y) = by_equal (bare caller_faults caller_number 41 caller_numbered x y) (λ e. ap (λ n. (n, 0, 0, 0)) e) (λ e. ap (λ (w : Fault). w.0) e)
+
+sensor_lettered : (z : Sensor) → sensor_letter z ≡ 5 * tag_of sensors z + 77
+sensor_lettered Mss = refl
+sensor_lettered Rbv = refl
+
+correction_lettered : (z : Correction) → correction_letter z + 15 * tag_of corrections z ≡ 80
+correction_lettered Corrected = refl
+correction_lettered Uncorrected = refl
+
+sensor_decides : (x y : Sensor) → Decides ((sensors_eq.ghosts).eq x y) (sensor_letter x ≡ sensor_letter y)
+sensor_decides x y =
+    let d = Decides-eqb (tag_of sensors x) (tag_of sensors y) in
+    let a = sensor_lettered x in
+    let b = sensor_lettered y in
+    (λ t. let h = d.0 t in omega (arith, a, b, h), λ h. d.1 (omega (arith, a, b, h)))
+
+correction_decides : (x y : Correction) → Decides ((corrections_eq.ghosts).eq x y) (correction_letter x ≡ correction_letter y)
+correction_decides x y =
+    let d = Decides-eqb (tag_of corrections x) (tag_of corrections y) in
+    let a = correction_lettered x in
+    let b = correction_lettered y in
+    (λ t. let h = d.0 t in omega (arith, a, b, h), λ h. d.1 (omega (arith, a, b, h)))
+
+five : (a b c d e a' b' c' d' e' : ℕ) → (a ≡ a') × ((b ≡ b') × ((c ≡ c') × ((d ≡ d') × (e ≡ e')))) → summary a b c d e ≡ summary a' b' c' d' e'
+five a b c d e a' b' c' d' e' h = let p = h.0 in let q = h.1.0 in let r = h.1.1.0 in let s = h.1.1.1.0 in let t = h.1.1.1.1 in cc
+
+of_five : (a b c d e a' b' c' d' e' : ℕ) → summary a b c d e ≡ summary a' b' c' d' e' → (a ≡ a') × ((b ≡ b') × ((c ≡ c') × ((d ≡ d') × (e ≡ e'))))
+of_five a b c d e a' b' c' d' e' h = (cc, (cc, (cc, (cc, cc))))
+
+outline_decides : (x y : Outline) → Decides ((outlines_eq.ghosts).eq x y) (outlined x ≡ outlined y)
+outline_decides x y =
+    by_equal
+    (both_and (sameb sensors x.sensor y.sensor) (x.mission == y.mission && (sameb corrections x.correction y.correction && (x.bands == y.bands && x.lines == y.lines))) (sensor_decides x.sensor y.sensor)
+    (both_and (x.mission == y.mission) (sameb corrections x.correction y.correction && (x.bands == y.bands && x.lines == y.lines)) (Decides-eqb x.mission y.mission)
+    (both_and (sameb corrections x.correction y.correction) (x.bands == y.bands && x.lines == y.lines) (correction_decides x.correction y.correction)
+    (both_and (x.bands == y.bands) (x.lines == y.lines) (Decides-eqb x.bands y.bands) (Decides-eqb x.lines y.lines)))))
+    (five (sensor_letter x.sensor) x.mission (correction_letter x.correction) x.bands x.lines (sensor_letter y.sensor) y.mission (correction_letter y.correction) y.bands y.lines)
+    (of_five (sensor_letter x.sensor) x.mission (correction_letter x.correction) x.bands x.lines (sensor_letter y.sensor) y.mission (correction_letter y.correction) y.bands y.lines)
+
+same_code : (a b : ℕ) → code a ≡ code b → a ≡ b
+same_code a b e = cc
+
+same_delivered : (a b : ℕ) → delivered a ≡ delivered b → a ≡ b
+same_delivered a b e = cc
+
+same_counted : (a b : ℕ) → counted a ≡ counted b → a ≡ b
+same_counted a b e = cc
+
+same_refused : (a b : Fault) → refused a ≡ refused b → a ≡ b
+same_refused a b e = cc
+
+-- An answer is told in numbers, and two are equal exactly where these are.
+abbrev Tells : Result Answer Refusal → Result Answer Refusal → Type 0
+Tells x y = told_answer x ≡ told_answer y
+
+answer_decides : (x y : Result Answer Refusal) → Decides (same_answer x y) (Tells x y)
+answer_decides (Ok (answers.Outline x)) (Ok (answers.Outline y)) = outline_decides x y
+answer_decides (Ok (answers.Outline x)) (Ok (answers.Code n)) = never (λ e. let z : ◌≡◌ {A = ℕ} 0 1 = cc in omega (arith, z))
+answer_decides (Ok (answers.Outline x)) (Ok (answers.Delivered n)) = never (λ e. let z : ◌≡◌ {A = ℕ} 0 1 = cc in omega (arith, z))
+answer_decides (Ok (answers.Outline x)) (Ok (answers.Tally n)) = never (λ e. let z : ◌≡◌ {A = ℕ} 0 1 = cc in omega (arith, z))
+answer_decides (Ok (answers.Outline x)) (Err r) = never (λ e. let z : ◌≡◌ {A = ℕ} 0 1 = cc in omega (arith, z))
+answer_decides (Ok (answers.Code m)) (Ok (answers.Outline y)) = never (λ e. let z : ◌≡◌ {A = ℕ} 0 1 = cc in omega (arith, z))
+answer_decides (Ok (answers.Code m)) (Ok (answers.Code n)) = by_equal (Decides-eqb m n) (λ e. ap code e) (same_code m n)
+answer_decides (Ok (answers.Code m)) (Ok (answers.Delivered n)) = never (λ e. let z : ◌≡◌ {A = ℕ} 0 1 = cc in omega (arith, z))
+answer_decides (Ok (answers.Code m)) (Ok (answers.Tally n)) = never (λ e. let z : ◌≡◌ {A = ℕ} 0 1 = cc in omega (arith, z))
+answer_decides (Ok (answers.Code m)) (Err r) = never (λ e. let z : ◌≡◌ {A = ℕ} 0 1 = cc in omega (arith, z))
+answer_decides (Ok (answers.Delivered m)) (Ok (answers.Outline y)) = never (λ e. let z : ◌≡◌ {A = ℕ} 0 1 = cc in omega (arith, z))
+answer_decides (Ok (answers.Delivered m)) (Ok (answers.Code n)) = never (λ e. let z : ◌≡◌ {A = ℕ} 0 1 = cc in omega (arith, z))
+answer_decides (Ok (answers.Delivered m)) (Ok (answers.Delivered n)) = by_equal (Decides-eqb m n) (λ e. ap delivered e) (same_delivered m n)
+answer_decides (Ok (answers.Delivered m)) (Ok (answers.Tally n)) = never (λ e. let z : ◌≡◌ {A = ℕ} 0 1 = cc in omega (arith, z))
+answer_decides (Ok (answers.Delivered m)) (Err r) = never (λ e. let z : ◌≡◌ {A = ℕ} 0 1 = cc in omega (arith, z))
+answer_decides (Ok (answers.Tally m)) (Ok (answers.Outline y)) = never (λ e. let z : ◌≡◌ {A = ℕ} 0 1 = cc in omega (arith, z))
+answer_decides (Ok (answers.Tally m)) (Ok (answers.Code n)) = never (λ e. let z : ◌≡◌ {A = ℕ} 0 1 = cc in omega (arith, z))
+answer_decides (Ok (answers.Tally m)) (Ok (answers.Delivered n)) = never (λ e. let z : ◌≡◌ {A = ℕ} 0 1 = cc in omega (arith, z))
+answer_decides (Ok (answers.Tally m)) (Ok (answers.Tally n)) = by_equal (Decides-eqb m n) (λ e. ap counted e) (same_counted m n)
+answer_decides (Ok (answers.Tally m)) (Err r) = never (λ e. let z : ◌≡◌ {A = ℕ} 0 1 = cc in omega (arith, z))
+answer_decides (Err r) (Ok (answers.Outline y)) = never (λ e. let z : ◌≡◌ {A = ℕ} 0 1 = cc in omega (arith, z))
+answer_decides (Err r) (Ok (answers.Code n)) = never (λ e. let z : ◌≡◌ {A = ℕ} 0 1 = cc in omega (arith, z))
+answer_decides (Err r) (Ok (answers.Delivered n)) = never (λ e. let z : ◌≡◌ {A = ℕ} 0 1 = cc in omega (arith, z))
+answer_decides (Err r) (Ok (answers.Tally n)) = never (λ e. let z : ◌≡◌ {A = ℕ} 0 1 = cc in omega (arith, z))
+answer_decides (Err r) (Err s) = by_equal (refusal_decides r s) (λ e. ap refused e) (same_refused (told_refusal r) (told_refusal s))
+
+pub answered_decides : (x y : Answered) → Decides (same_answered x y) (answered x ≡ answered y)
+answered_decides x y =
+    both (same_answer x.answer y.answer) (pointwise ◌==◌ (vec_items x.buffer) (vec_items y.buffer)) (answer_decides x.answer y.answer)
+    (slice_eq-Decides Decides-eqb (vec_items x.buffer) (vec_items y.buffer) (pointwise ◌==◌ (vec_items x.buffer) (vec_items y.buffer)) refl)
+    pair (λ e. ap (λ p. p.0) e) (λ e. ap (λ p. p.1) e)
