@@ -2,8 +2,8 @@ use Rattle.std.proofs.Common.{length, ◌∙◌, arith}
 use Rattle.bridge.proofs.Sums.{delivered_fit, delivered_more, buffer_more, delivered_all, after_lines_all}
 use Rattle.bridge.proofs.counts.delivered.Goals as goal
 
-pub overflow-add-count : goal.overflow-add-count
-overflow-add-count g c = omega (arith, delivered_fit (g.D.Deck.meaning c.args.reader.now.deck) c.args.reader.now.accepted (length c.args.buffer.now) c.args.lines.now c.loop-wanted.wanted-index c.loop-wanted.count _ c.loop-wanted.invariant.3 c.delivers-count.ensures.value)
+pub overflow_add-count : goal.overflow_add-count
+overflow_add-count g c = omega (arith, delivered_fit (g.D.Deck.meaning c.args.reader.now.deck) c.args.reader.now.accepted (length c.args.buffer.now) c.args.lines.now c.loop-wanted.wanted-index c.loop-wanted.count _ c.loop-wanted.invariant.3 c.delivers-count.ensures.value)
 
 pub loop-wanted-preserved : goal.loop-wanted-preserved
 loop-wanted-preserved g c =

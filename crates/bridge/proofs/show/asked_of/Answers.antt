@@ -7,13 +7,13 @@ pub loop-fetch-preserved : goal.loop-fetch-preserved
 loop-fetch-preserved g c =
     let set = g.D.Deck.meaning c.reels.new.self in
     let was = g.D.Deck.meaning c.loop-fetch.deck in (
-      c.look-at.ensures.stays ∙ c.loop-fetch.invariant.0,
-      words_more set was c.loop-fetch.invariant.0 c.args.fetches.now c.loop-fetch.fetch-index _ c.loop-fetch-test.true (length set) (vec_items c.loop-fetch.words) (vec_items c.extend-from-slice.new.self) c.in-ok-seen.seen.words
-          c.loop-fetch.invariant.1 c.in-ok-seen.ensures.words
-          (pushed c.in-ok-seen.seen.words refl c.in-ok-extend-from-slice.was c.extend-from-slice.ensures.items),
-      buffers_more set was c.loop-fetch.invariant.0 c.args.fetches.now c.loop-fetch.fetch-index _ c.loop-fetch-test.true (vec_items c.loop-fetch.buffers) (vec_items c.extend-from-slice-in-loop-fetch.new.self) c.as-slice.result.now
-          c.loop-fetch.invariant.2 (c.as-slice.ensures.value ∙ c.in-ok-seen.ensures.fills)
-          (pushed c.as-slice.result.now refl c.in-ok-extend-from-slice-2.was c.extend-from-slice-in-loop-fetch.ensures.items),
+      c.look_at.ensures.stays ∙ c.loop-fetch.invariant.0,
+      words_more set was c.loop-fetch.invariant.0 c.args.fetches.now c.loop-fetch.fetch-index _ c.loop-fetch-test.true (length set) (vec_items c.loop-fetch.words) (vec_items c.extend_from_slice.new.self) c.in_ok-seen.seen.words
+          c.loop-fetch.invariant.1 c.in_ok-seen.ensures.words
+          (pushed c.in_ok-seen.seen.words refl c.in_ok-extend_from_slice.was c.extend_from_slice.ensures.items),
+      buffers_more set was c.loop-fetch.invariant.0 c.args.fetches.now c.loop-fetch.fetch-index _ c.loop-fetch-test.true (vec_items c.loop-fetch.buffers) (vec_items c.extend_from_slice-in-loop-fetch.new.self) c.as_slice.result.now
+          c.loop-fetch.invariant.2 (c.as_slice.ensures.value ∙ c.in_ok-seen.ensures.fills)
+          (pushed c.as_slice.result.now refl c.in_ok-extend_from_slice-2.was c.extend_from_slice-in-loop-fetch.ensures.items),
     )
 
 pub returns : goal.returns
