@@ -7,7 +7,7 @@ use Rattle.reader.specs.Bodies.{Delivery, told, told_delivery, line_answer, band
 use Rattle.reader.specs.Finding.{codes}
 use Rattle.reader.specs.Refusals.{told_refusal}
 use Rattle.reader.specs.declared.refusal.Refusal.{Refusal}
-use Rattle.listing.specs.Tapes.{delivered, readable, each, present}
+use Rattle.listing.specs.Tapes.{delivered, readable, band_text, bands_text, each, present}
 
 few-delivered : (d : Delivery) → delivered d ≤ 1
 few-delivered (Ok body) = omega arith
@@ -108,3 +108,8 @@ present_all of m last k text r f p same e err =
     sym (append-nil text)
     ∙ ap (λ cs. text ++ each of cs) (sym (behind (present m) p.at (no_kth m k p.at r f p.is (e ∙ ap (λ b. band_answer b k) same) err)))
     ∙ p.so_far
+
+-- The lines of the bands are what is written of each.
+pub each_band : (set : TapeSet) (m : Option Accepted) (lines : ℕ) (cs : List ℕ) → each (λ c. band_text c (readable set m c lines)) cs ≡ bands_text set m lines cs
+each_band set m lines [] = refl
+each_band set m lines (c ∷ cs) = ap (λ t. band_text c (readable set m c lines) ++ t) (each_band set m lines cs)

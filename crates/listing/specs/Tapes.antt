@@ -52,14 +52,15 @@ abbrev pub readable : TapeSet → Option Accepted → ℕ → ℕ → ℕ
 readable set m code zero = 0
 readable set m code (suc n) = readable set m code n + delivered (line_answer set m code (suc n) 5382)
 
+-- The lines of some bands, each of so many lines.
+abbrev pub bands_text : TapeSet → Option Accepted → ℕ → List ℕ → List ℕ
+bands_text set m lines [] = []
+bands_text set m lines (c ∷ cs) = band_text c (readable set m c lines) ++ bands_text set m lines cs
+
 -- What is written of some bands, one after another.
 abbrev pub each : (ℕ → List ℕ) → List ℕ → List ℕ
 each text [] = []
 each text (c ∷ cs) = text c ++ each text cs
-
--- The lines of some bands, each of so many lines.
-abbrev pub bands_text : TapeSet → Option Accepted → ℕ → List ℕ → List ℕ
-bands_text set m lines codes = each (λ c. band_text c (readable set m c lines)) codes
 
 -- The codes of the bands that are remembered.
 abbrev pub present : Option Accepted → List ℕ

@@ -1,7 +1,7 @@
 use Rattle.std.proofs.Common.{string_bytes, refl, ap, ◌∙◌, arith}
 use Rattle.std.proofs.lemmas.Slice.{pushed}
-use Rattle.listing.specs.Tapes.{band_text, readable}
-use Rattle.listing.proofs.Present.{present_inside, present-next, present_all, counted_now}
+use Rattle.listing.specs.Tapes.{band_text, readable, present}
+use Rattle.listing.proofs.Present.{present_inside, present-next, present_all, counted_now, each_band}
 use Rattle.listing.proofs.bands.bands_listing.Goals as goal
 
 pub overflow_add-k : goal.overflow_add-k
@@ -35,3 +35,4 @@ pub returns : goal.returns
 returns g c =
     present_all (λ n. band_text n (readable (g.D.Deck.meaning c.args.reader.now.deck) c.args.reader.now.accepted n c.args.lines)) c.args.reader.now.accepted c.loop-code.reader.accepted c.loop-code.k (string_bytes c.loop-code.text)
     c.band.result c.in_default.field-0 c.loop-code.invariant.2 c.loop-code.invariant.1 c.band.ensures c.in_default.is
+    ∙ each_band (g.D.Deck.meaning c.args.reader.now.deck) c.args.reader.now.accepted c.args.lines (present c.args.reader.now.accepted)
