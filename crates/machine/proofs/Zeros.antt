@@ -1,6 +1,6 @@
 -- The bits of some bytes, gathered: none is set where every byte is zero.
 use Rattle.std.proofs.Common.{◌≡◌, ℕ, zero, suc, ◌+◌, ◌<◌, ◌≤◌, Bool, true, false, ◌&&◌, eqb, List, length, get_or, drop, sym, refl, ap, ◌∙◌, arith}
-use lib.Bits.{bit_or, bit_and, or_zero_l, or_add_and, and_le_r}
+use lib.Bits.{bit_or, or_zero_l, or_add_and, and_le_r}
 use Rattle.std.proofs.lemmas.List.{at_drop_more, at_drop_all}
 use Rattle.std.proofs.lemmas.Bool.{ne_eqb}
 use Rattle.machine.specs.Machines.{all_zero}

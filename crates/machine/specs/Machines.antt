@@ -1,5 +1,5 @@
 -- The survey's machine, as a decision table: what it expects and what comes give the machine afterwards, or the number of a fault.
-use Rattle.std.specs.Prelude.{ℕ, ◌+◌, ◌-◌, ◌*◌, ◌%◌, Bool, true, false, cond, not, ◌&&◌, ◌||◌, List, [], ◌∷◌, drop, replicate, Some, None, Ok, Err, Option, Result, ◌==◌, nat_le, nat_lt, slice_index_or, slice_set}
+use Rattle.std.specs.Prelude.{◌≡◌, ℕ, ◌+◌, ◌-◌, ◌*◌, ◌%◌, ◌≤◌, Bool, true, false, cond, not, ◌&&◌, ◌||◌, List, [], ◌∷◌, length, drop, replicate, Some, None, Ok, Err, Option, Result, ◌==◌, nat_le, nat_lt, slice_index_or, slice_set}
 use Rattle.deck.specs.Tape.{Block, written, mark, bad}
 use Rattle.records.specs.Bands.{present, more_bands}
 use Rattle.records.specs.Directories.{first_directory, same_directory}
@@ -45,6 +45,11 @@ closed m =
 
 abbrev pub banded : Machine → Bands → Machine
 banded m b = record { reels = m.reels; expect = m.expect; directory = m.directory; layout = m.layout; group = m.group; groups = m.groups; table = m.table; bands = b }
+
+-- What holds of a machine throughout: its directory is whole, the deck has at most nine reels, and an image file has at most 8,192 lines
+-- of five bands.
+abbrev pub Steady : Machine → Type 0
+Steady m = (length m.directory ≡ 360) × ((m.reels ≤ 9) × (m.group.blocks ≤ 40960))
 
 -- What a step says: the machine afterwards, or the fault's number.
 abbrev pub stepped : Result (Unit {0}) Cause → Machine → Result Machine ℕ

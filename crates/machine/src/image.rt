@@ -1,7 +1,7 @@
 // Image files: their lines, and the trailers behind them.
-ghost use Rattle.std.specs.Prelude.{◌≡◌, ◌<◌, ◌≤◌, length, drop, slice_index_or};
+ghost use Rattle.std.specs.Prelude.{◌≡◌, ◌<◌, ◌≤◌, length, drop, OnOk, slice_index_or};
 ghost use Rattle.records.specs.Layouts.{stride};
-ghost use Rattle.machine.specs.Machines.{stepped, set_stepped, all_zero, most_blocks, missing, one_more, line, on_image, on_bad_line, no_group, lines_agree, behind_trailer, on_first_trailer, on_trailer, on_resumed};
+ghost use Rattle.machine.specs.Machines.{Steady, stepped, set_stepped, all_zero, most_blocks, missing, one_more, line, on_image, on_bad_line, no_group, lines_agree, behind_trailer, on_first_trailer, on_trailer, on_resumed};
 
 use super::machine::{Expect, Group, Machine, Place};
 use records::{Cause, Content, Form, IMAGE, SetFault, TRAILER, check, present};
@@ -65,7 +65,8 @@ impl Machine {
 
     // One more line; `zero` says whether its body is all zero.
     fn line(&mut self, at: Place, zero: bool) -> Result<(), SetFault>
-        ensures { set_stepped result self.new ≡ line self.old at zero }
+        ensures says { set_stepped result self.new ≡ line self.old at zero }
+        ensures stays_steady { Steady self.old → OnOk result (Steady self.new) }
     {
         if self.group.blocks >= self.most_blocks() {
             return Err(SetFault::Lines);
@@ -80,7 +81,8 @@ impl Machine {
 
     // An image record.
     pub(crate) fn image(&mut self, at: Place, bytes: &[u8]) -> Result<(), Cause>
-        ensures { stepped result self.new ≡ on_image self.old at bytes.now }
+        ensures says { stepped result self.new ≡ on_image self.old at bytes.now }
+        ensures stays_steady { Steady self.old → OnOk result (Steady self.new) }
     {
         let number = self.group.blocks as u64 + 1;
         check(bytes, self.layout.form.record_length(), IMAGE, number)?;
@@ -91,7 +93,8 @@ impl Machine {
 
     // A bad block in an image file.
     pub(crate) fn bad_line(&mut self, at: Place) -> Result<(), Cause>
-        ensures { stepped result self.new ≡ on_bad_line self.old at }
+        ensures says { stepped result self.new ≡ on_bad_line self.old at }
+        ensures stays_steady { Steady self.old → OnOk result (Steady self.new) }
     {
         self.line(at, false)?;
         Ok(())
@@ -120,7 +123,8 @@ impl Machine {
 
     // The first trailer, which closes the count of lines.
     pub(crate) fn first_trailer(&mut self, at: Place, bytes: &[u8]) -> Result<(), Cause>
-        ensures { stepped result self.new ≡ on_first_trailer self.old at bytes.now }
+        ensures says { stepped result self.new ≡ on_first_trailer self.old at bytes.now }
+        ensures stays_steady { Steady self.old → OnOk result (Steady self.new) }
     {
         check(bytes, self.layout.form.record_length(), TRAILER, 1)?;
         if !self.lines_agree() {
@@ -132,7 +136,8 @@ impl Machine {
     }
 
     pub(crate) fn trailer(&mut self, number: u32, bytes: &[u8]) -> Result<(), Cause>
-        ensures { stepped result self.new ≡ on_trailer self.old number bytes.now }
+        ensures says { stepped result self.new ≡ on_trailer self.old number bytes.now }
+        ensures stays_steady { Steady self.old → OnOk result (Steady self.new) }
     {
         check(
             bytes,
@@ -146,7 +151,8 @@ impl Machine {
 
     // The first record of a reel that goes on behind an image block: its type tells whether the image file does.
     pub(crate) fn resumed(&mut self, at: Place, bytes: &[u8]) -> Result<(), Cause>
-        ensures { stepped result self.new ≡ on_resumed self.old at bytes.now }
+        ensures says { stepped result self.new ≡ on_resumed self.old at bytes.now }
+        ensures stays_steady { Steady self.old → OnOk result (Steady self.new) }
     {
         match bytes.get(5) {
             Some(kind) if *kind == TRAILER => self.first_trailer(at, bytes),

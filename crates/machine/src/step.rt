@@ -1,8 +1,8 @@
 // One block more: what the machine does with each, by what it expects.
-ghost use Rattle.std.specs.Prelude.{◌≡◌, Ok};
+ghost use Rattle.std.specs.Prelude.{◌≡◌, Ok, OnOk};
 ghost use Rattle.records.specs.Directories.{first_directory};
 ghost use Rattle.records.specs.Records.{recorded};
-ghost use Rattle.machine.specs.Machines.{stepped, set_stepped, block_of, decked, deck_says, record_says, refusal, unexpected, first, later, on_directory, on_header, on_attribute, next_group, ends_in_image, ends_behind_trailer, expecting, closed, step};
+ghost use Rattle.machine.specs.Machines.{Steady, stepped, set_stepped, block_of, decked, deck_says, record_says, refusal, unexpected, first, later, on_directory, on_header, on_attribute, next_group, ends_in_image, ends_behind_trailer, expecting, closed, step};
 
 use super::machine::{Expect, Group, Machine, Onward, Place, Seen};
 use records::{
@@ -12,7 +12,8 @@ use records::{
 
 impl Machine {
     fn first(&mut self, bytes: &[u8; DIRECTORY_LENGTH], onward: Onward) -> Result<(), SetFault>
-        ensures { set_stepped result self.new ≡ first self.old onward bytes.now (first_directory bytes.now self.old.reels) }
+        ensures says { set_stepped result self.new ≡ first self.old onward bytes.now (first_directory bytes.now self.old.reels) }
+        ensures stays_steady { Steady self.old → OnOk result (Steady self.new) }
     {
         let Some(layout) = first_directory(bytes, self.reels) else {
             return Err(SetFault::Directory);
@@ -29,7 +30,8 @@ impl Machine {
         bytes: &[u8; DIRECTORY_LENGTH],
         onward: Onward,
     ) -> Result<(), SetFault>
-        ensures { set_stepped result self.new ≡ later self.old at onward bytes.now }
+        ensures says { set_stepped result self.new ≡ later self.old at onward bytes.now }
+        ensures stays_steady { Steady self.old → OnOk result (Steady self.new) }
     {
         if !same_directory(&self.directory, bytes) {
             return Err(SetFault::OtherDirectory);
@@ -42,7 +44,8 @@ impl Machine {
     }
 
     fn directory(&mut self, at: Place, bytes: &[u8], onward: Onward) -> Result<(), Cause>
-        ensures { stepped result self.new ≡ on_directory self.old at onward bytes.now }
+        ensures says { stepped result self.new ≡ on_directory self.old at onward bytes.now }
+        ensures stays_steady { Steady self.old → OnOk result (Steady self.new) }
     {
         check(bytes, DIRECTORY_LENGTH, DIRECTORY, 1)?;
         let mut directory = [0; DIRECTORY_LENGTH];
@@ -56,7 +59,8 @@ impl Machine {
     }
 
     fn header(&mut self, at: Place, bytes: &[u8]) -> Result<(), Cause>
-        ensures { stepped result self.new ≡ on_header self.old at bytes.now }
+        ensures says { stepped result self.new ≡ on_header self.old at bytes.now }
+        ensures stays_steady { Steady self.old → OnOk result (Steady self.new) }
     {
         check(bytes, self.layout.form.record_length(), HEADER, 1)?;
         let last = match self.group.content {
@@ -78,7 +82,8 @@ impl Machine {
     }
 
     fn attribute(&mut self, number: u32, bytes: &[u8]) -> Result<(), Cause>
-        ensures { stepped result self.new ≡ on_attribute self.old number bytes.now }
+        ensures says { stepped result self.new ≡ on_attribute self.old number bytes.now }
+        ensures stays_steady { Steady self.old → OnOk result (Steady self.new) }
     {
         let kind = if number <= 1 + self.layout.ancillaries() {
             ANCILLARY
@@ -96,7 +101,8 @@ impl Machine {
 
     // Behind the mark of a trailer file a record is the next header, where bands follow each other.
     fn next_group(&mut self, at: Place, bytes: &[u8]) -> Result<(), Cause>
-        ensures { stepped result self.new ≡ next_group self.old.layout.form self.old at bytes.now }
+        ensures says { stepped result self.new ≡ next_group self.old.layout.form self.old at bytes.now }
+        ensures stays_steady { Steady self.old → OnOk result (Steady self.new) }
     {
         match self.layout.form {
             Form::Interleaved => Err(Cause::Record(RecordFault::RecordForMark)),
@@ -107,7 +113,8 @@ impl Machine {
 
     // A second mark behind an image file: the reel is over, and another goes on.
     fn end_in_image(&mut self, at: Place) -> Result<(), SetFault>
-        ensures { set_stepped result self.new ≡ ends_in_image self.old at }
+        ensures says { set_stepped result self.new ≡ ends_in_image self.old at }
+        ensures stays_steady { Steady self.old → OnOk result (Steady self.new) }
     {
         if at.reel >= self.reels {
             return Err(SetFault::Finish);
@@ -118,7 +125,8 @@ impl Machine {
 
     // A second mark behind a trailer file: the reel is over, and on the last reel the set.
     fn end_behind_trailer(&mut self, at: Place) -> Result<(), SetFault>
-        ensures { set_stepped result self.new ≡ ends_behind_trailer self.old at }
+        ensures says { set_stepped result self.new ≡ ends_behind_trailer self.old at }
+        ensures stays_steady { Steady self.old → OnOk result (Steady self.new) }
     {
         self.expect = if at.reel < self.reels {
             match self.layout.form {
@@ -136,7 +144,8 @@ impl Machine {
 
     // The group that is read joins those that have been read. Bands rise, so there are no more than five.
     fn close_group(&mut self) -> Result<(), Cause>
-        ensures { stepped result self.new ≡ Ok (expecting (closed self.old) Expect.BehindTrailer) }
+        ensures says { stepped result self.new ≡ Ok (expecting (closed self.old) Expect.BehindTrailer) }
+        ensures stays_steady { Steady self.old → OnOk result (Steady self.new) }
     {
         if self.groups < 5 {
             self.table[self.groups] = self.group;
@@ -147,7 +156,8 @@ impl Machine {
 
     // Takes the block that came by what was expected, and expects the next.
     pub fn step(&mut self, at: Place, seen: Seen) -> Result<(), Cause>
-        ensures { stepped result self.new ≡ step self.old at (block_of seen.entry) }
+        ensures says { stepped result self.new ≡ step self.old at (block_of seen.entry) }
+        ensures stays_steady { Steady self.old → OnOk result (Steady self.new) }
     {
         match (self.expect, seen) {
             (Expect::Directory(onward), Seen::Record(bytes)) => self.directory(at, bytes, onward),
@@ -189,7 +199,8 @@ impl Machine {
     }
 
     fn turn(&mut self, expect: Expect) -> Result<(), Cause>
-        ensures { stepped result self.new ≡ Ok (expecting self.old expect) }
+        ensures says { stepped result self.new ≡ Ok (expecting self.old expect) }
+        ensures stays_steady { Steady self.old → OnOk result (Steady self.new) }
     {
         self.expect = expect;
         Ok(())

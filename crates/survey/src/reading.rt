@@ -1,7 +1,7 @@
 // The survey of a deck.
-ghost use Rattle.std.specs.Prelude.{◌≡◌, ◌-◌, ◌≤◌, [], length, is_some, IfOk, slice_index_or};
+ghost use Rattle.std.specs.Prelude.{◌≡◌, ◌-◌, ◌≤◌, [], length, is_some, IfOk, OnOk, slice_index_or};
 ghost use Rattle.deck.specs.Tape.{look};
-ghost use Rattle.machine.specs.Machines.{block_of, step};
+ghost use Rattle.machine.specs.Machines.{Steady, block_of, step};
 ghost use Rattle.survey.specs.Laws.{Judged};
 ghost use Rattle.survey.specs.Surveys.{shown_in, there, FitsIn, told_step, placed, feed_reel, told, surveyed};
 
@@ -45,6 +45,7 @@ fn take<D: Deck>(
     ensures stays { D.meaning deck.new ≡ D.meaning deck.old }
     ensures says { told_step result machine.new ≡ placed at (step machine.old at (look (D.meaning deck.old) at.reel at.block)) }
     ensures more { IfOk result (λ b. b ≡ is_some (look (D.meaning deck.old) at.reel at.block)) }
+    ensures stays_steady { Steady machine.old → OnOk result (Steady machine.new) }
 {
     let Ok(kind) = deck.fetch(at.reel, at.block, scratch) else {
         return unreachable();
@@ -70,6 +71,7 @@ fn survey_reel<D: Deck>(
     requires on_reel { (1 ≤ reel) × (reel ≤ length (D.meaning deck.old)) }
     ensures stays { D.meaning deck.new ≡ D.meaning deck.old }
     ensures says { told_step result machine.new ≡ feed_reel machine.old reel 1 (slice_index_or (D.meaning deck.old) (reel - 1) []) }
+    ensures stays_steady { Steady machine.old → OnOk result (Steady machine.new) }
 {
     let mut block = 1;
     while take(deck, machine, Place { reel, block }, scratch)? {

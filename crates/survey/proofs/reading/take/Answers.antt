@@ -20,8 +20,9 @@ returns-in-Ok-step g c =
     let saw = c.seen_as.ensures ∙ ap (shown_in c.in-Ok.kind) c.fetch.ensures.bytes ∙ f.0 in
     record {
       stays = c.fetch.ensures.stays;
-      says = ap (placed c.args.at) (c.in-Ok-step.ensures ∙ ap (step c.args.machine.now c.args.at) saw);
+      says = ap (placed c.args.at) (c.in-Ok-step.ensures.says ∙ ap (step c.args.machine.now c.args.at) saw);
       more = c.there.ensures ∙ f.1;
+      stays_steady = c.in-Ok-step.ensures.stays_steady;
     }
 
 pub returns-in-Err : goal.returns-in-Err
@@ -31,6 +32,7 @@ returns-in-Err g c =
     let saw = c.seen_as.ensures ∙ ap (shown_in c.in-Ok.kind) c.fetch.ensures.bytes ∙ f.0 in
     record {
       stays = c.fetch.ensures.stays;
-      says = ap Err (told_is c.in-Err.cause c.args.at) ∙ ap (placed c.args.at) (c.in-Err.ensures ∙ ap (step c.args.machine.now c.args.at) saw);
+      says = ap Err (told_is c.in-Err.cause c.args.at) ∙ ap (placed c.args.at) (c.in-Err.ensures.says ∙ ap (step c.args.machine.now c.args.at) saw);
       more = tt;
+      stays_steady = λ s. tt;
     }
