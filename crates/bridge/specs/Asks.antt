@@ -1,5 +1,5 @@
 -- Calls in numbers.
-use Rattle.std.specs.Prelude.{ℕ, cond, List, replicate, ◌==◌}
+use Rattle.std.specs.Prelude.{cond, replicate, ◌==◌}
 use Rattle.reader.specs.declared.call.Call.{Call}
 use Rattle.reader.specs.declared.call.Call.TheVariants.{Survey, Band, Ident, Line, Sheet, Tally}
 use Rattle.witness.specs.Replies.{Question}

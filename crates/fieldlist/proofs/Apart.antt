@@ -3,7 +3,7 @@ use Rattle.std.proofs.Common.{◌≡◌, ℕ, ◌/◌, ◌%◌, ◌<◌, Bool, t
 use Rattle.std.proofs.lemmas.Bool.Decides.{nat_tests}
 use Rattle.std.specs.Fmt.{digit_glyph}
 use Rattle.fieldlist.specs.Laws.{Bytes, ToldApart}
-use Rattle.fieldlist.specs.Shown.{plain, shown_byte, shown, quoted}
+use Rattle.fieldlist.specs.Shown.{plain, shown_byte, shown}
 
 plain-not : (b : ℕ) → plain b ≡ true → (b ≡ 34 → ⊥) × (b ≡ 92 → ⊥)
 plain-not b p = (λ e. grind (arith, nat_tests), λ e. grind (arith, nat_tests))

@@ -1,21 +1,19 @@
 -- The image file of a band, by the place of its code in the picture.
-use Rattle.std.proofs.Common.{◌≡◌, ℕ, zero, suc, ◌+◌, ◌-◌, ◌*◌, ◌/◌, ◌%◌, ◌<◌, ◌≤◌, Bool, true, false, cond, ◌&&◌, ◌||◌, eqb, ltb, leb, ◌⊎◌, List, [], ◌∷◌, ◌++◌, map, length, get_or, Some, None, Option, sym, refl, ap, ◌∙◌, subst, ⊎_elim, append-nil, arith}
-use Rattle.std.proofs.lemmas.Bool.{eqb-true, and_parts, or_cases}
+use Rattle.std.proofs.Common.{◌≡◌, ℕ, zero, suc, ◌+◌, ◌-◌, ◌*◌, ◌/◌, ◌%◌, ◌<◌, ◌≤◌, Bool, true, false, cond, ◌&&◌, ◌||◌, eqb, ltb, List, [], ◌∷◌, ◌++◌, map, length, get_or, Some, None, sym, refl, ap, ◌∙◌, subst, append-nil, arith}
+use Rattle.std.proofs.lemmas.Bool.{eqb-true, and_parts}
 use Rattle.deck.specs.Tape.{TapeSet}
-use Rattle.records.specs.Bands.{weight, present}
-use Rattle.records.specs.Headers.{bands_fit, bands_in, content_of}
+use Rattle.records.specs.Bands.{present}
+use Rattle.records.specs.Headers.{bands_in, content_of}
 use Rattle.records.specs.Layouts.{stride}
 use Rattle.records.specs.Records.{byte}
-use Rattle.records.specs.declared.header.Content.{Content}
 use Rattle.records.specs.declared.header.Content.TheVariants.{One, Mixed}
-use Rattle.records.specs.declared.layout.Form.{Form}
-use Rattle.records.specs.declared.layout.Form.TheVariants.{Interleaved, Sequential, Vidicon}
+use Rattle.records.specs.declared.layout.Form.TheVariants.{Interleaved}
 use Rattle.records.specs.declared.layout.Layout.{Layout}
 use Rattle.machine.specs.Machines.{band_of, no_group}
 use Rattle.machine.specs.declared.machine.Group.{Group}
 use Rattle.survey.specs.Pictures.{Sheets, sheets_of, all_codes, all_rows, all_sheets, codes_in, rows_in, every, if_there, places_in}
 use Rattle.survey.specs.Placed.{Stood, StoodFrom}
-use Rattle.survey.specs.Recordings.{Body, Line, Files}
+use Rattle.survey.specs.Recordings.{Line, Files}
 use Rattle.survey.specs.Validity.{content, header_record, all_lines, width, bands_wide, ValidFiles, ValidGroups}
 use Rattle.reader.specs.Finding.{index_of}
 use Rattle.reader.specs.Pictured.{no_sheets}

@@ -1,9 +1,9 @@
 -- What is delivered is the body of the record that was read.
-use Rattle.std.proofs.Common.{◌≡◌, ℕ, ◌+◌, ◌-◌, ◌<◌, ◌≤◌, eqb, List, ◌++◌, length, take, drop, Some, None, Ok, Err, Option, sym, refl, ap, ◌∙◌, subst, ⊎_elim, arith, length-drop}
+use Rattle.std.proofs.Common.{◌≡◌, ℕ, ◌-◌, ◌<◌, ◌≤◌, eqb, List, ◌++◌, length, take, drop, Some, Ok, Err, Option, sym, ap, ◌∙◌, ⊎_elim, arith, length-drop}
 use Rattle.std.proofs.lemmas.List.{drop-append-le, take_at}
 use Rattle.std.proofs.lemmas.Bool.{eq-eqb, cond-true, cases_lt}
 use Rattle.deck.specs.Answers.{filled}
-use Rattle.deck.specs.Tape.{Block, written, TapeSet, SoundReels, look}
+use Rattle.deck.specs.Tape.{Block, TapeSet, SoundReels, look}
 use Rattle.deck.proofs.Looks.{Read, look-far}
 use Rattle.reader.specs.Bodies.{body_of, body_at, told_delivery, buffer_after}
 use Rattle.reader.specs.declared.places.Spot.{Spot}

@@ -1,5 +1,5 @@
 -- What holds of the picture and the sheets of every valid recording.
-use Rattle.std.proofs.Common.{◌≡◌, ℕ, zero, suc, ◌+◌, ◌-◌, ◌*◌, ◌<◌, ◌≤◌, Bool, true, false, cond, ◌&&◌, ◌||◌, eqb, ltb, leb, ◌⊎◌, List, [], ◌∷◌, ◌++◌, map, length, get_or, take, drop, Some, None, Option, sym, refl, ap, ◌∙◌, subst, ⊎_elim, append-nil, arith, length-append, length-drop}
+use Rattle.std.proofs.Common.{◌≡◌, ℕ, zero, suc, ◌+◌, ◌-◌, ◌*◌, ◌<◌, ◌≤◌, Bool, true, false, cond, ◌&&◌, eqb, leb, List, [], ◌∷◌, ◌++◌, map, length, get_or, drop, Some, None, sym, refl, ap, ◌∙◌, subst, append-nil, arith, length-append, length-drop}
 use lib.ListN.{length-map}
 use Rattle.std.proofs.lemmas.List.{length-take-le}
 use Rattle.std.proofs.lemmas.Bool.{eq-eqb, ne_eqb, leb-true, and_parts}
@@ -18,11 +18,11 @@ use Rattle.records.specs.declared.layout.Form.TheVariants.{Interleaved, Sequenti
 use Rattle.records.specs.declared.layout.Layout.{Layout}
 use Rattle.machine.specs.Machines.{band_of}
 use Rattle.survey.specs.Pictures.{Picture, Sheets, picture, sheets, sheets_of, all_codes, all_rows, all_sheets, codes_in, rows_in, every, if_there, places_in}
-use Rattle.survey.specs.Recordings.{Body, Line, Files, Recording}
-use Rattle.survey.specs.Validity.{body_length, Whole, content, header_record, AllFit, all_lines, width, bands_wide, ValidFiles, ValidGroups, Valid}
+use Rattle.survey.specs.Recordings.{Line, Files, Recording}
+use Rattle.survey.specs.Validity.{body_length, Whole, content, header_record, AllFit, all_lines, width, ValidFiles, ValidGroups, Valid}
 use Rattle.survey.proofs.Groups.{Rising, rises}
 use Rattle.reader.specs.Finding.{index_of}
-use Rattle.reader.specs.Pictured.{body_size, no_sheets}
+use Rattle.reader.specs.Pictured.{body_size}
 
 -- Codes that rise from a bound on.
 abbrev pub From : ℕ → List ℕ → Type 0

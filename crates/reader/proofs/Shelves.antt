@@ -1,19 +1,19 @@
 -- The table of places leads to every sheet of a recording.
-use Rattle.std.proofs.Common.{◌≡◌, ℕ, zero, suc, ◌+◌, ◌-◌, ◌<◌, ◌≤◌, Bool, true, false, cond, ◌&&◌, eqb, ltb, leb, ◌⊎◌, List, [], ◌∷◌, ◌++◌, length, get_or, Some, None, Ok, Err, Option, sym, refl, ap, ◌∙◌, subst, ⊎_elim, arith, length-append}
+use Rattle.std.proofs.Common.{◌≡◌, ℕ, zero, suc, ◌+◌, ◌-◌, ◌<◌, ◌≤◌, Bool, true, false, cond, eqb, ltb, leb, List, [], ◌∷◌, ◌++◌, length, get_or, Some, None, Ok, Err, Option, sym, refl, ap, ◌∙◌, subst, ⊎_elim, arith, length-append}
 use Rattle.std.proofs.lemmas.Bool.{le-leb, lt-leb, eq-eqb, cases_lt, cond-true, and_from, and_right}
-use Rattle.deck.specs.Tape.{Block, written, mark, Reel, TapeSet, nth, from_one, look}
+use Rattle.deck.specs.Tape.{written, mark, TapeSet, nth, from_one, look}
 use Rattle.deck.proofs.Looks.{nth-there, nth_past}
 use Rattle.records.specs.Layouts.{record_length, ancillaries, annotations}
 use Rattle.records.specs.declared.layout.Layout.{Layout}
 use Rattle.machine.specs.declared.machine.Group.{Group}
-use Rattle.survey.specs.Pictures.{Sheets, sheets_of}
+use Rattle.survey.specs.Pictures.{sheets_of}
 use Rattle.survey.specs.Placed.{Stood}
-use Rattle.survey.specs.Recordings.{Body, Files, record_of, numbered, attributes_file, trailer_file}
+use Rattle.survey.specs.Recordings.{Body, Files, record_of, numbered, attributes_file}
 use Rattle.survey.specs.Validity.{body_length, Whole, ValidFiles}
 use Rattle.survey.proofs.Running.{nth-front}
 use Rattle.survey.proofs.Groups.{length-numbered}
 use Rattle.reader.specs.Bodies.{Delivery, body_of, body_at}
-use Rattle.reader.specs.Finding.{spot, shelf, sheet_on, sheet_spot}
+use Rattle.reader.specs.Finding.{spot, sheet_on, sheet_spot}
 use Rattle.reader.specs.declared.places.Spot.{Spot}
 use Rattle.reader.specs.Pictured.{of_kind, sheet_or}
 

@@ -1,10 +1,10 @@
 -- What a call answers over an accepted set is what its picture and its sheets say.
-use Rattle.std.proofs.Common.{◌≡◌, ℕ, ◌+◌, ◌-◌, ◌*◌, ◌<◌, ◌≤◌, min, Bool, true, false, cond, ◌&&◌, ◌||◌, eqb, ltb, leb, ◌⊎◌, List, [], ◌∷◌, ◌++◌, length, get_or, take, Some, None, Ok, Err, Option, Result, sym, refl, ap, ◌∙◌, subst, ⊎_elim, arith}
+use Rattle.std.proofs.Common.{◌≡◌, ℕ, ◌+◌, ◌-◌, ◌*◌, ◌<◌, ◌≤◌, Bool, true, false, cond, ◌&&◌, eqb, ltb, leb, List, [], ◌∷◌, length, get_or, Some, None, Ok, Err, Option, sym, refl, ap, ◌∙◌, subst, arith}
 use Rattle.std.proofs.lemmas.Bool.{leb-true, and_parts}
 use Rattle.deck.specs.Tape.{TapeSet, from_one}
 use Rattle.records.specs.Headers.{content_of}
 use Rattle.records.specs.Layouts.{sensor_in, record_length, stride}
-use Rattle.records.specs.declared.header.Content.TheVariants.{One, Mixed}
+use Rattle.records.specs.declared.header.Content.TheVariants.{One}
 use Rattle.records.specs.declared.layout.Form.{Form}
 use Rattle.records.specs.declared.layout.Form.TheVariants.{Interleaved, Sequential, Vidicon}
 use Rattle.records.specs.declared.layout.Layout.{Layout}
@@ -12,14 +12,13 @@ use Rattle.machine.specs.Machines.{no_group}
 use Rattle.machine.specs.declared.accepted.Accepted.{Accepted}
 use Rattle.machine.specs.declared.machine.Group.{Group}
 use Rattle.survey.specs.Laws.{Obeys}
-use Rattle.survey.specs.Pictures.{Picture, Sheets, picture, sheets, all_codes, all_rows, all_sheets}
+use Rattle.survey.specs.Pictures.{picture, sheets, all_codes, all_rows, all_sheets}
 use Rattle.survey.specs.Placed.{StoodFrom}
-use Rattle.survey.specs.Recordings.{Files, Recording, written_as}
-use Rattle.survey.specs.Surveys.{Fault, surveyed}
-use Rattle.survey.specs.Validity.{body_length, content, width, bands_wide, ValidGroups, Valid}
+use Rattle.survey.specs.Recordings.{Files, Recording}
+use Rattle.survey.specs.Validity.{body_length, content, width, bands_wide, ValidGroups}
 use Rattle.survey.proofs.Steps.{six}
-use Rattle.reader.specs.Bodies.{Delivery, line_in, line_answer, sheet_read, sheet_in, sheet_answer, ident_answer, band_answer, outline, body_at}
-use Rattle.reader.specs.Finding.{index_of, codes, file_in, file_at, band_file, line_spot, sheet_spot, image_on, image_spot}
+use Rattle.reader.specs.Bodies.{Delivery, line_in, line_answer, sheet_read, sheet_in, sheet_answer, ident_answer, body_at}
+use Rattle.reader.specs.Finding.{index_of, codes, file_in, file_at, band_file, line_spot, sheet_spot}
 use Rattle.reader.specs.declared.places.BandFile.{BandFile}
 use Rattle.reader.specs.declared.places.Spot.{Spot}
 use Rattle.reader.specs.Pictured.{pictured_ident, body_size, line_or, row_line, pictured_line, band_sheet, pictured_sheet, sheet_or, of_kind, no_sheets}

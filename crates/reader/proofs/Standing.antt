@@ -1,18 +1,17 @@
 -- The table of places leads to every line of a recording.
-use Rattle.std.proofs.Common.{◌≡◌, ℕ, zero, suc, ◌+◌, ◌-◌, ◌*◌, ◌<◌, ◌≤◌, Bool, true, false, cond, eqb, ltb, leb, ◌⊎◌, List, [], ◌∷◌, ◌++◌, length, get_or, take, drop, Some, None, Ok, Err, Option, sym, refl, ap, ◌∙◌, subst, ⊎_elim, arith, length-append}
-use Rattle.std.proofs.lemmas.List.{get_or_past, get_or_append_left, get_or-append_right, drop_more, drop_all}
+use Rattle.std.proofs.Common.{◌≡◌, ℕ, zero, suc, ◌+◌, ◌-◌, ◌<◌, ◌≤◌, Bool, true, false, cond, eqb, leb, List, [], ◌∷◌, ◌++◌, length, get_or, drop, Some, None, Ok, Err, sym, refl, ap, ◌∙◌, subst, ⊎_elim, arith, length-append}
+use Rattle.std.proofs.lemmas.List.{get_or_past, get_or_append_left, get_or-append_right, drop_more}
 use Rattle.std.proofs.lemmas.Bool.{le-leb, lt-leb, eq-eqb, ne_eqb, cases_lt, cond-true, cond-false}
-use Rattle.deck.specs.Tape.{Block, written, mark, bad, Reel, TapeSet, nth, look}
+use Rattle.deck.specs.Tape.{TapeSet, nth, look}
 use Rattle.records.specs.Layouts.{record_length, attributes}
 use Rattle.records.specs.declared.header.Content.{Content}
 use Rattle.records.specs.declared.layout.Layout.{Layout}
 use Rattle.machine.specs.declared.machine.Group.{Group}
-use Rattle.survey.specs.Placed.{Filled, Lain, Stood}
-use Rattle.survey.specs.Recordings.{Body, Line, Files, record_of, numbered, line_block, lines_from}
-use Rattle.survey.specs.Validity.{body_length, Going, Begun, Fit, AllFit, all_lines}
-use Rattle.reader.specs.Bodies.{Delivery, body_of, body_at}
+use Rattle.survey.specs.Placed.{Lain, Stood}
+use Rattle.survey.specs.Recordings.{Line, Files, record_of, line_block, lines_from}
+use Rattle.survey.specs.Validity.{body_length, Going, Begun, AllFit, all_lines}
+use Rattle.reader.specs.Bodies.{body_of, body_at}
 use Rattle.reader.specs.Finding.{spot, image_on, image_spot}
-use Rattle.reader.specs.declared.places.Spot.{Spot}
 use Rattle.reader.specs.Pictured.{line_or}
 
 -- Lines in a row.

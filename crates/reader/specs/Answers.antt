@@ -7,7 +7,7 @@ use Rattle.records.specs.declared.layout.Sensor.{Sensor}
 use Rattle.records.specs.declared.layout.Sensor.TheVariants.{Mss, Rbv}
 use Rattle.machine.specs.declared.accepted.Accepted.{Accepted}
 use Rattle.survey.specs.Surveys.{Fault, surveyed}
-use Rattle.reader.specs.Bodies.{Delivery, told_delivery, buffer_after, raised, line_answer, sheet_answer, ident_answer, band_answer, survey_answer, accepted_by}
+use Rattle.reader.specs.Bodies.{told_delivery, buffer_after, raised, line_answer, sheet_answer, ident_answer, band_answer, survey_answer, accepted_by}
 use Rattle.reader.specs.Refusals.{told_refusal}
 use Rattle.reader.specs.declared.call.Answer.{Answer}
 use Rattle.reader.specs.declared.call.Answer.TheVariants as answers

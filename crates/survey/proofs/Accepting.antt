@@ -1,17 +1,16 @@
 -- A valid recording is accepted, and the table of places leads to what it says.
-use Rattle.std.proofs.Common.{◌≡◌, ℕ, zero, suc, ◌+◌, ◌-◌, ◌*◌, ◌<◌, ◌≤◌, Bool, true, false, cond, eqb, ltb, ◌⊎◌, List, [], ◌∷◌, ◌++◌, length, get_or, set, Some, None, Ok, Err, Result, sym, refl, ap, ◌∙◌, subst, inl, inr, ⊎_elim, arith, length-set}
+use Rattle.std.proofs.Common.{◌≡◌, ℕ, zero, suc, ◌+◌, ◌-◌, ◌*◌, ◌<◌, ◌≤◌, Bool, true, false, eqb, ltb, ◌⊎◌, List, [], ◌∷◌, ◌++◌, length, get_or, set, Some, Ok, Result, sym, refl, ap, ◌∙◌, subst, inl, inr, ⊎_elim, arith, length-set}
 use Rattle.std.proofs.lemmas.List.{get_or-set_same, get_or-set_other}
 use Rattle.std.proofs.lemmas.Bool.{lt-ltb, le-ltb, eq-eqb, ne_eqb, cond-true, cond-false, cases_eq}
-use Rattle.deck.specs.Tape.{Block, written, mark, Reel, TapeSet, nth, look}
+use Rattle.deck.specs.Tape.{mark, Reel, TapeSet}
 use Rattle.records.specs.Headers.{band_in, content_of}
-use Rattle.machine.specs.Machines.{step, band_of, goes_on, next_group, ends_behind_trailer, no_group}
+use Rattle.machine.specs.Machines.{step, band_of, goes_on, next_group, no_group}
 use Rattle.records.specs.Bands.{more_bands}
 use Rattle.records.specs.Records.{byte}
 use Rattle.survey.specs.Surveys.{Fault}
 use Rattle.machine.specs.Findings.{place_of}
 use Rattle.records.specs.declared.bands.Bands.{Bands}
-use Rattle.records.specs.declared.layout.Form.{Form}
-use Rattle.records.specs.declared.layout.Form.TheVariants.{Interleaved, Sequential, Vidicon}
+use Rattle.records.specs.declared.layout.Form.TheVariants.{Sequential}
 use Rattle.records.specs.declared.layout.Layout.{Layout}
 use Rattle.machine.specs.declared.machine.Expect.{Expect}
 use Rattle.machine.specs.declared.machine.Expect.TheVariants as expects
@@ -22,7 +21,7 @@ use Rattle.survey.specs.Recordings.{Body, Line, Files, record_of, attributes_fil
 use Rattle.survey.specs.Validity.{content, header_record, Begun, bands_wide, ValidFiles, ValidGroups}
 use Rattle.survey.specs.Placed.{Stood, StoodFrom}
 use Rattle.survey.proofs.Running.{On, onward, last_reel, before-blocks}
-use Rattle.survey.proofs.Stretches.{hd, tl, length_before, length_image, length-closes, closing-before, closing_only, closing_last}
+use Rattle.survey.proofs.Stretches.{hd, tl, length_before, length_image, length-closes, closing-before, closing_last}
 use Rattle.survey.proofs.Steps.{machine}
 use Rattle.survey.proofs.Reels.{next_stretch}
 use Rattle.survey.proofs.Groups.{Rising, rises, Heads, Grouped, group_run}

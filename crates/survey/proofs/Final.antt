@@ -1,10 +1,8 @@
 -- A fault is final: a set with the same blocks up to the fault has the same fault.
-use Rattle.std.proofs.Common.{◌≡◌, ℕ, zero, suc, ◌+◌, ◌-◌, ◌<◌, ◌≤◌, List, [], ◌∷◌, length, Some, None, Ok, Err, Option, Result, sym, refl, ap, ◌∙◌, subst, ⊎_elim, arith}
-use Rattle.std.proofs.lemmas.Bool.{cases_lt}
-use Rattle.deck.specs.Tape.{Block, Reel, TapeSet, nth, look_on, look}
+use Rattle.std.proofs.Common.{◌≡◌, ℕ, suc, ◌+◌, ◌<◌, ◌≤◌, List, [], ◌∷◌, length, Some, None, Ok, Err, Result, sym, refl, ap, ◌∙◌, subst, arith}
+use Rattle.deck.specs.Tape.{Reel, TapeSet, nth, look_on, look}
 use Rattle.machine.specs.Findings.{place_of, start, accepted}
 use Rattle.machine.specs.Machines.{step}
-use Rattle.machine.specs.declared.accepted.Accepted.{Accepted}
 use Rattle.machine.specs.declared.machine.Machine.{Machine}
 use Rattle.survey.specs.Laws.{fault_reel, fault_block, SameThrough}
 use Rattle.survey.specs.Surveys.{Fault, fault_at, placed, then, feed_reel, feed, surveyed}

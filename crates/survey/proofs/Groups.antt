@@ -1,18 +1,15 @@
 -- The machine over the files of a group.
-use Rattle.std.proofs.Common.{◌≡◌, ℕ, zero, suc, ◌+◌, ◌-◌, ◌*◌, ◌%◌, ◌<◌, ◌≤◌, Bool, true, false, cond, ◌&&◌, ◌||◌, eqb, ltb, leb, ◌⊎◌, List, [], ◌∷◌, ◌++◌, length, get_or, set, replicate, Some, None, Ok, Err, Result, sym, refl, ap, ◌∙◌, subst, ⊎_elim, append_assoc, arith, length-append, length-set}
-use lib.ListN.{length-replicate, get_or-replicate}
+use Rattle.std.proofs.Common.{◌≡◌, ℕ, zero, suc, ◌+◌, ◌-◌, ◌*◌, ◌%◌, ◌<◌, ◌≤◌, Bool, true, false, cond, ◌&&◌, ◌||◌, eqb, ltb, leb, ◌⊎◌, List, [], ◌∷◌, ◌++◌, length, get_or, set, replicate, Some, Ok, Err, Result, sym, refl, ap, ◌∙◌, subst, ⊎_elim, append_assoc, arith}
 use Rattle.std.proofs.lemmas.Bool.{lt-ltb, le-ltb, le-leb, lt-leb, eq-eqb, ltb-true, leb-true, eqb-true, and_parts, or_cases, cond-true, cond-false}
-use Rattle.deck.specs.Tape.{Block, written, mark, bad, Reel, TapeSet, nth, look}
-use Rattle.records.specs.Headers.{band_in, band_fits, trailers_fit, content_of, header}
+use Rattle.deck.specs.Tape.{written, mark, Reel, TapeSet, nth, look}
+use Rattle.records.specs.Headers.{band_in, trailers_fit, header}
 use Rattle.records.specs.Layouts.{record_length, ancillaries, annotations, attributes, stride}
-use Rattle.machine.specs.Machines.{step, passed, expecting, fresh, begun, band_of, on_header, on_first_trailer, trailing, trailed, lines_agree, no_group, most_blocks, closed}
+use Rattle.machine.specs.Machines.{step, passed, expecting, fresh, begun, band_of, on_header, on_first_trailer, trailing, trailed, lines_agree, no_group, most_blocks}
 use Rattle.records.specs.Bands.{more_bands}
-use Rattle.records.specs.Records.{byte, checked}
+use Rattle.records.specs.Records.{byte}
 use Rattle.survey.specs.Surveys.{Fault}
 use Rattle.machine.specs.Findings.{place_of}
 use Rattle.records.specs.declared.bands.Bands.{Bands}
-use Rattle.records.specs.declared.header.Content.{Content}
-use Rattle.records.specs.declared.header.Content.TheVariants.{One, Mixed}
 use Rattle.records.specs.declared.header.Header.{Header}
 use Rattle.records.specs.declared.layout.Correction.{Correction}
 use Rattle.records.specs.declared.layout.Correction.TheVariants.{Corrected, Uncorrected}
@@ -25,14 +22,14 @@ use Rattle.machine.specs.declared.machine.Group.{Group}
 use Rattle.machine.specs.declared.machine.Machine.{Machine}
 use Rattle.machine.specs.declared.machine.Place.{Place}
 use Rattle.records.proofs.Headers.{header-passes}
-use Rattle.survey.specs.Recordings.{Body, Line, Files, record_of, numbered, line_block, lines_from, part, before, attributes_file, image_file, trailer_file, closing, bound}
-use Rattle.survey.specs.Validity.{body_length, Whole, content, header_record, Going, Begun, AllFit, all_lines, width, bands_wide, ValidFiles}
+use Rattle.survey.specs.Recordings.{Body, Line, Files, record_of, numbered, before, attributes_file, image_file, trailer_file, closing, bound}
+use Rattle.survey.specs.Validity.{body_length, Whole, content, header_record, all_lines, width, bands_wide, ValidFiles}
 use Rattle.survey.proofs.Passing.{passes}
 use Rattle.survey.proofs.Running.{On, onward, moved, before-blocks, nth-front}
-use Rattle.survey.proofs.Stretches.{hd, tl, hd_before, tl_before, length_before, length_image}
+use Rattle.survey.proofs.Stretches.{hd, tl, hd_before, tl_before, length_before}
 use Rattle.survey.proofs.Steps.{six, machine, attribute_next, attributes_run, trailer_next, trailers_run}
 use Rattle.survey.specs.Placed.{Lain, Stood}
-use Rattle.survey.proofs.Images.{Imaged, full_run, first_opens}
+use Rattle.survey.proofs.Images.{full_run, first_opens}
 
 -- Counts.
 few_lines : (b : Bool) (lines : ℕ) → lines ≤ 8192 → lines * cond b 5 4 ≤ 8192 * cond b 5 4

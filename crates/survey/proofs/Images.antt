@@ -1,9 +1,9 @@
 -- The machine over the parts of an image file.
-use Rattle.std.proofs.Common.{◌≡◌, ℕ, ◌+◌, ◌-◌, ◌<◌, ◌≤◌, Bool, true, false, cond, eqb, ltb, leb, List, [], ◌∷◌, ◌++◌, length, get_or, set, Some, None, Ok, Err, Result, sym, refl, ap, ◌∙◌, subst, ⊎_elim, append_assoc, arith, length-append, length-set}
+use Rattle.std.proofs.Common.{◌≡◌, ℕ, ◌+◌, ◌-◌, ◌<◌, ◌≤◌, ltb, List, [], ◌∷◌, ◌++◌, length, get_or, Some, None, Ok, Err, Result, sym, refl, ap, ◌∙◌, subst, append_assoc, arith, length-append, length-set}
 use Rattle.std.proofs.lemmas.List.{get_or-set_same, get_or-set_other}
 use Rattle.std.proofs.lemmas.Bool.{lt-ltb, cond-true}
-use Rattle.deck.specs.Tape.{Block, written, mark, bad, Reel, TapeSet, nth, look}
-use Rattle.machine.specs.Machines.{step, one_more, on_record, on_first_trailer, ends_in_image}
+use Rattle.deck.specs.Tape.{written, mark, Reel, TapeSet, nth, look}
+use Rattle.machine.specs.Machines.{step, one_more, on_first_trailer}
 use Rattle.survey.specs.Surveys.{Fault}
 use Rattle.machine.specs.Findings.{place_of}
 use Rattle.records.specs.declared.bands.Bands.{Bands}
@@ -15,10 +15,10 @@ use Rattle.machine.specs.declared.machine.Machine.{Machine}
 use Rattle.machine.specs.declared.machine.Onward.TheVariants as onwards
 use Rattle.machine.specs.declared.machine.Place.{Place}
 use Rattle.survey.specs.Recordings.{Body, Line, record_of, line_block, lines_from, part, before, image_file, closing, bound}
-use Rattle.survey.specs.Validity.{Going, Begun, AllFit, all_lines}
-use Rattle.survey.specs.Placed.{Filled, Lain}
+use Rattle.survey.specs.Validity.{Going, AllFit, all_lines}
+use Rattle.survey.specs.Placed.{Lain}
 use Rattle.survey.proofs.Running.{On, onward, moved, before-blocks, nth-front}
-use Rattle.survey.proofs.Stretches.{hd, tl, hd_before, tl_before, before_nil, length_before, length_image, closing-before}
+use Rattle.survey.proofs.Stretches.{hd, tl, hd_before, tl_before, before_nil, length_image, closing-before}
 use Rattle.survey.proofs.Steps.{machine, lined, most, line_step, line-passes, lines_run}
 use Rattle.survey.proofs.Reels.{next_stretch}
 

@@ -1,5 +1,5 @@
 -- What a step that was taken tells of the block.
-use Rattle.std.proofs.Common.{◌≡◌, ℕ, ◌+◌, Bool, true, false, cond, not, ◌&&◌, ◌⊎◌, List, [], ◌∷◌, length, Some, None, Ok, Err, Option, Result, sym, refl, ap, ◌∙◌, subst, inl, inr, arith}
+use Rattle.std.proofs.Common.{◌≡◌, ℕ, ◌+◌, Bool, true, false, cond, not, ◌&&◌, ◌⊎◌, List, Some, None, Ok, Err, Option, Result, sym, refl, ap, inl, inr, arith}
 use Rattle.deck.specs.Tape.{Reel, TapeSet}
 use Rattle.records.specs.Headers.{counts_fit, band_fits, trailers_fit, bands_fit, content_of, header}
 use Rattle.machine.specs.Machines.{passed, begun}

@@ -1,13 +1,12 @@
 -- The survey judges rightly.
-use Rattle.std.proofs.Common.{◌≡◌, ℕ, ◌+◌, ◌-◌, ◌<◌, ◌≤◌, Bool, true, false, cond, ltb, ◌⊎◌, List, [], ◌∷◌, ◌++◌, map, length, take, drop, set, replicate, Ok, Err, Result, sym, refl, ap, ◌∙◌, subst, inl, inr, ⊎_elim, append_assoc, append-nil, arith, length-append, length-set}
+use Rattle.std.proofs.Common.{◌≡◌, ℕ, ◌+◌, ◌-◌, ◌<◌, ◌≤◌, Bool, true, false, cond, ltb, ◌⊎◌, List, [], ◌∷◌, ◌++◌, map, length, take, drop, set, Ok, Err, Result, sym, refl, ap, ◌∙◌, subst, inl, inr, ⊎_elim, append_assoc, append-nil, arith, length-append, length-set}
 use mathlib.Core.List.{map-append}
 use Rattle.std.proofs.lemmas.List.{take_more_set}
 use Rattle.std.proofs.lemmas.Bool.{lt-ltb, cond-true}
 use Rattle.deck.specs.Tape.{TapeSet, Sound}
 use Rattle.records.specs.Bands.{present, no_bands, one_band, if_present, more_bands}
 use Rattle.records.specs.declared.bands.Bands.{Bands}
-use Rattle.records.specs.declared.header.Content.{Content}
-use Rattle.records.specs.declared.header.Content.TheVariants.{One, Mixed}
+use Rattle.records.specs.declared.header.Content.TheVariants.{Mixed}
 use Rattle.records.specs.Headers.{content_of}
 use Rattle.records.specs.Layouts.{stride}
 use Rattle.records.specs.Records.{byte}
@@ -17,14 +16,12 @@ use Rattle.records.specs.declared.layout.Layout.{Layout}
 use Rattle.machine.specs.Machines.{band_of}
 use Rattle.machine.specs.Findings.{lines_in, accepted}
 use Rattle.machine.specs.declared.accepted.Accepted.{Accepted}
-use Rattle.machine.specs.declared.machine.Machine.{Machine}
-use Rattle.survey.specs.Laws.{Obeys, Breaks, Judged}
+use Rattle.survey.specs.Laws.{Obeys, Judged}
 use Rattle.survey.specs.Pictures.{if_there, codes_in, all_codes}
-use Rattle.survey.specs.Placed.{StoodFrom}
-use Rattle.survey.specs.Recordings.{Files, Recording, record_of, written_as}
+use Rattle.survey.specs.Recordings.{Files, Recording, written_as}
 use Rattle.survey.specs.Surveys.{Fault, surveyed}
 use Rattle.survey.specs.Validity.{content, header_record, ValidGroups, Valid}
-use Rattle.survey.proofs.Accepting.{Done, bands_after, five_at_most, next_band}
+use Rattle.survey.proofs.Accepting.{bands_after, five_at_most, next_band}
 use Rattle.survey.proofs.Final.{final}
 use Rattle.survey.proofs.Recorded.{Recorded, recorded}
 use Rattle.survey.proofs.Starting.{lines_back, done, accepts}

@@ -1,7 +1,7 @@
 -- Every accepted set was written from a valid recording.
-use Rattle.std.proofs.Common.{◌≡◌, ℕ, ◌+◌, ◌≤◌, Bool, true, false, cond, eqb, ◌⊎◌, List, [], ◌∷◌, ◌++◌, length, drop, replicate, Some, None, Ok, Err, Option, Result, sym, refl, ap, ◌∙◌, subst, inl, inr, ⊎_elim, arith}
+use Rattle.std.proofs.Common.{◌≡◌, ℕ, ◌+◌, ◌≤◌, Bool, true, false, cond, eqb, List, [], ◌∷◌, ◌++◌, length, drop, replicate, Some, None, Ok, Err, Option, Result, sym, refl, ap, ◌∙◌, subst, inl, inr, ⊎_elim, arith}
 use Rattle.std.proofs.lemmas.Bool.{eqb-true}
-use Rattle.deck.specs.Tape.{Block, written, mark, bad, Reel, TapeSet}
+use Rattle.deck.specs.Tape.{written, mark, bad, Reel, TapeSet}
 use Rattle.records.specs.Bands.{no_bands}
 use Rattle.records.specs.Directories.{layout_of, fixed, named, first_directory, same_directory}
 use Rattle.records.specs.Records.{byte, checked}
@@ -16,7 +16,7 @@ use Rattle.machine.specs.declared.machine.Group.{Group}
 use Rattle.machine.specs.declared.machine.Machine.{Machine}
 use Rattle.machine.specs.declared.machine.Onward.{Onward}
 use Rattle.machine.specs.declared.machine.Onward.TheVariants as onwards
-use Rattle.survey.specs.Recordings.{Body, Recording, record_of, stretches, reels, directory_on, closing, bound, written_as}
+use Rattle.survey.specs.Recordings.{Body, Recording, record_of, stretches, directory_on, closing, bound, written_as}
 use Rattle.survey.specs.Surveys.{Fault, then, feed, surveyed}
 use Rattle.survey.specs.Validity.{Valid}
 use Rattle.survey.proofs.Accepting.{length_tl}

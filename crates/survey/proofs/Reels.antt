@@ -1,5 +1,5 @@
 -- The directories of later reels, and the way from one reel to the next.
-use Rattle.std.proofs.Common.{◌≡◌, ℕ, ◌+◌, ◌-◌, ◌<◌, ◌≤◌, Bool, true, false, cond, ◌&&◌, eqb, List, [], ◌∷◌, ◌++◌, length, get_or, take, drop, set, Some, None, Ok, Err, Result, sym, refl, ap, ◌∙◌, subst, arith, length-set}
+use Rattle.std.proofs.Common.{◌≡◌, ℕ, ◌+◌, ◌<◌, ◌≤◌, true, cond, eqb, List, [], ◌∷◌, ◌++◌, length, get_or, take, drop, set, Some, None, Ok, Result, sym, refl, ap, ◌∙◌, subst, arith, length-set}
 use lib.Seq.{split_at, set_split}
 use Rattle.std.specs.Str.{bytes_eq}
 use Rattle.std.proofs.lemmas.Slice.Eq.{bytes_eq-Decides}
@@ -20,8 +20,8 @@ use Rattle.machine.specs.declared.machine.Group.{Group}
 use Rattle.machine.specs.declared.machine.Machine.{Machine}
 use Rattle.machine.specs.declared.machine.Onward.{Onward}
 use Rattle.survey.specs.Recordings.{Body, record_of, directory_on, closing, bound}
-use Rattle.survey.proofs.Passing.{passes, Spelt, spells}
-use Rattle.survey.proofs.Running.{On, onward, next_reel, moved}
+use Rattle.survey.proofs.Passing.{passes, spells}
+use Rattle.survey.proofs.Running.{On, onward, next_reel}
 use Rattle.survey.proofs.Stretches.{hd, tl, bound_more}
 use Rattle.survey.proofs.Steps.{machine}
 

@@ -1,5 +1,5 @@
 -- What is still to come, as a writer would have written it, wherever the machine stands.
-use Rattle.std.proofs.Common.{◌≡◌, ℕ, ◌+◌, ◌-◌, ◌*◌, ◌≤◌, Bool, true, false, ◌⊎◌, List, [], ◌∷◌, ◌++◌, length, get_or, sym, refl, ap, ◌∙◌, subst, arith}
+use Rattle.std.proofs.Common.{◌≡◌, ℕ, ◌+◌, ◌-◌, ◌*◌, ◌≤◌, Bool, false, ◌⊎◌, List, [], ◌∷◌, ◌++◌, length, get_or, sym, refl, ap, ◌∙◌, subst, arith}
 use Rattle.deck.specs.Tape.{Block, written, mark, Reel, TapeSet}
 use Rattle.records.specs.Layouts.{ancillaries, attributes, stride}
 use Rattle.machine.specs.Machines.{band_of, no_group, most_blocks}
@@ -10,9 +10,9 @@ use Rattle.machine.specs.declared.machine.Expect.TheVariants as expects
 use Rattle.machine.specs.declared.machine.Group.{Group}
 use Rattle.machine.specs.declared.machine.Onward.{Onward}
 use Rattle.machine.specs.declared.machine.Onward.TheVariants as onwards
-use Rattle.survey.specs.Recordings.{Body, Line, Files, numbered, line_block, lines_from, part, before, image_file, closes, stretches, directory_on, closing, bound}
+use Rattle.survey.specs.Recordings.{Body, Line, Files, numbered, line_block, lines_from, before, image_file, closes, stretches, directory_on, closing, bound}
 use Rattle.survey.specs.Validity.{body_length, Whole, Going, Begun, AllFit, all_lines, bands_wide, ValidGroups}
-use Rattle.survey.proofs.Stretches.{hd, tl, hd_before, tl_before, length_before, bound_more, closing-before}
+use Rattle.survey.proofs.Stretches.{hd, tl, bound_more, closing-before}
 use Rattle.survey.proofs.Accepting.{length_tl}
 
 -- An image file in the middle of a part, and behind a part.

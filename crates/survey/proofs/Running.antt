@@ -1,5 +1,5 @@
 -- The machine on its way along a set: where it stands, and what is still before it.
-use Rattle.std.proofs.Common.{◌≡◌, ℕ, zero, suc, ◌+◌, ◌<◌, List, [], ◌∷◌, ◌++◌, length, Some, None, Ok, Err, Option, Result, sym, refl, ap, ◌∙◌, subst, arith}
+use Rattle.std.proofs.Common.{◌≡◌, ℕ, zero, suc, ◌+◌, ◌<◌, List, [], ◌∷◌, ◌++◌, length, Some, None, Ok, Result, sym, refl, ap, ◌∙◌, subst, arith}
 use Rattle.deck.specs.Tape.{Block, Reel, TapeSet, nth, look_on, look}
 use Rattle.machine.specs.Machines.{step}
 use Rattle.survey.specs.Surveys.{Fault, placed, then, feed_reel, feed}

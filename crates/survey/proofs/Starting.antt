@@ -1,15 +1,13 @@
 -- The survey of a valid recording.
-use Rattle.std.proofs.Common.{◌≡◌, ℕ, ◌+◌, ◌-◌, ◌*◌, ◌/◌, ◌<◌, ◌≤◌, Bool, true, false, cond, ◌&&◌, eqb, ◌⊎◌, List, [], ◌∷◌, ◌++◌, length, get_or, take, drop, replicate, Some, None, Ok, Err, Option, Result, sym, refl, ap, ◌∙◌, subst, inl, inr, arith}
+use Rattle.std.proofs.Common.{◌≡◌, ℕ, ◌*◌, ◌/◌, ◌≤◌, Bool, true, false, cond, eqb, List, [], ◌∷◌, ◌++◌, length, get_or, replicate, Some, Ok, Result, sym, refl, ap, ◌∙◌, subst, inl, inr, arith}
 use Rattle.std.proofs.lemmas.Bool.{eqb-true, and_parts}
 use Rattle.deck.specs.Tape.{written, mark, Reel, TapeSet}
-use Rattle.records.specs.Directories.{layout_of, fixed, blank, first_directory}
-use Rattle.records.specs.Layouts.{record_length, stride}
-use Rattle.machine.specs.Machines.{step, passed, first, on_directory, no_group}
+use Rattle.records.specs.Directories.{layout_of, fixed, first_directory}
+use Rattle.machine.specs.Machines.{passed, first, on_directory}
 use Rattle.records.specs.Bands.{no_bands}
 use Rattle.records.specs.Records.{byte, checked}
 use Rattle.survey.specs.Surveys.{Fault, then, feed, surveyed}
-use Rattle.machine.specs.Findings.{place_of, start, nothing_read, lines_in, lines_of, accepted}
-use Rattle.machine.specs.declared.accepted.Accepted.{Accepted}
+use Rattle.machine.specs.Findings.{place_of, start, nothing_read, lines_in, accepted}
 use Rattle.records.specs.declared.layout.Form.{Form}
 use Rattle.records.specs.declared.layout.Form.TheVariants.{Interleaved, Sequential, Vidicon}
 use Rattle.records.specs.declared.layout.Layout.{Layout}
@@ -17,11 +15,11 @@ use Rattle.machine.specs.declared.machine.Expect.TheVariants as expects
 use Rattle.machine.specs.declared.machine.Machine.{Machine}
 use Rattle.machine.specs.declared.machine.Onward.TheVariants as onwards
 use Rattle.records.proofs.Directories.{names}
-use Rattle.survey.specs.Recordings.{Body, Files, Recording, record_of, directory_on, stretches, reels, closing, bound, written_as}
-use Rattle.survey.specs.Validity.{width, bands_wide, Valid}
+use Rattle.survey.specs.Recordings.{Body, Recording, record_of, directory_on, stretches, reels, closing, bound, written_as}
+use Rattle.survey.specs.Validity.{width, Valid}
 use Rattle.survey.proofs.Passing.{passes}
 use Rattle.survey.proofs.Running.{On, onward, beginning}
-use Rattle.survey.proofs.Stretches.{hd, tl, bound_more, length-bound}
+use Rattle.survey.proofs.Stretches.{hd, tl, length-bound}
 use Rattle.survey.proofs.Steps.{machine}
 use Rattle.survey.proofs.Reels.{first_reel}
 use Rattle.survey.proofs.Accepting.{length_tl, some_stretch, Done, groups_run}

@@ -1,7 +1,7 @@
 -- The machine's steps over what a writer writes.
-use Rattle.std.proofs.Common.{◌≡◌, ℕ, ◌+◌, ◌-◌, ◌<◌, ◌≤◌, Bool, true, false, cond, not, ◌&&◌, eqb, ltb, leb, List, [], ◌∷◌, ◌++◌, length, drop, Some, None, Ok, Err, Option, Result, sym, refl, ap, ◌∙◌, subst, arith}
-use Rattle.std.proofs.lemmas.Bool.{lt-ltb, lt-leb, le-ltb, cond-true, cond-false, true≢false}
-use Rattle.deck.specs.Tape.{Block, written, mark, bad, Reel, TapeSet}
+use Rattle.std.proofs.Common.{◌≡◌, ℕ, ◌+◌, ◌<◌, ◌≤◌, Bool, true, false, cond, not, ◌&&◌, ltb, leb, List, [], ◌∷◌, ◌++◌, length, Some, None, Ok, Result, sym, refl, ap, ◌∙◌, subst, arith}
+use Rattle.std.proofs.lemmas.Bool.{lt-ltb, lt-leb, cond-true, cond-false, true≢false}
+use Rattle.deck.specs.Tape.{written, Reel, TapeSet}
 use Rattle.records.specs.Layouts.{record_length, ancillaries, attributes, stride}
 use Rattle.machine.specs.Machines.{step, passed, one_more, most_blocks, missing, all_zero, line, on_image, on_bad_line}
 use Rattle.records.specs.Records.{checked}

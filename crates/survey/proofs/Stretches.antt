@@ -1,8 +1,8 @@
 -- Lists of stretches: the first one, the others, and what is put before them.
-use Rattle.std.proofs.Common.{◌≡◌, ℕ, ◌+◌, ◌<◌, ◌≤◌, true, false, cond, ◌||◌, eqb, ltb, List, [], ◌∷◌, ◌++◌, length, sym, refl, ap, ◌∙◌, append_assoc, append-nil, arith}
-use Rattle.std.proofs.lemmas.Bool.{lt-ltb, le-ltb, eq-eqb, ne_eqb}
-use Rattle.deck.specs.Tape.{Block, written, mark, Reel, TapeSet}
-use Rattle.survey.specs.Recordings.{Body, Line, Files, part, before, image_file, closes, stretches, attributes_file, trailer_file, directory_on, closing, bound}
+use Rattle.std.proofs.Common.{◌≡◌, ℕ, ◌+◌, ◌<◌, ◌≤◌, true, false, cond, ◌||◌, eqb, List, [], ◌∷◌, ◌++◌, length, sym, refl, ap, ◌∙◌, append-nil, arith}
+use Rattle.std.proofs.lemmas.Bool.{lt-ltb, le-ltb, ne_eqb}
+use Rattle.deck.specs.Tape.{written, mark, Reel}
+use Rattle.survey.specs.Recordings.{Body, Line, part, before, image_file, closes, directory_on, closing, bound}
 
 abbrev pub hd : List Reel → Reel
 hd [] = []

@@ -1,38 +1,34 @@
 -- From a run that was accepted, what a writer wrote: the machine's table read backwards.
-use Rattle.std.proofs.Common.{◌≡◌, ℕ, ◌+◌, ◌-◌, ◌*◌, ◌/◌, ◌%◌, ◌<◌, ◌≤◌, Bool, true, false, cond, not, ◌&&◌, ◌||◌, eqb, ltb, leb, ◌⊎◌, List, [], ◌∷◌, ◌++◌, length, get_or, drop, set, Some, None, Ok, Err, Option, Result, sym, refl, ap, ◌∙◌, subst, inl, inr, ⊎_elim, arith, length-set}
-use Rattle.std.proofs.lemmas.Bool.{ltb-true, ltb-false, leb-true, leb-false, eqb-true, eqb-false, and_parts, or_cases, cond-true, cond-false}
+use Rattle.std.proofs.Common.{◌≡◌, ℕ, ◌+◌, ◌<◌, ◌≤◌, Bool, true, false, cond, not, ◌&&◌, eqb, ltb, leb, ◌⊎◌, List, [], ◌∷◌, length, drop, set, Some, None, Ok, sym, refl, ap, ◌∙◌, subst, inl, ⊎_elim, arith, length-set}
+use Rattle.std.proofs.lemmas.Bool.{ltb-true, ltb-false, leb-false, eqb-true, eqb-false}
 use Rattle.deck.specs.Tape.{Block, written, mark, bad, Reel, TapeSet}
-use Rattle.records.specs.Headers.{trailers_fit, content_of, header}
+use Rattle.records.specs.Headers.{header}
 use Rattle.records.specs.Layouts.{record_length, ancillaries, annotations, attributes, stride}
 use Rattle.records.specs.Records.{byte, checked}
 use Rattle.records.specs.Bands.{more_bands}
 use Rattle.records.specs.declared.bands.Bands.{Bands}
-use Rattle.records.specs.declared.header.Header.{Header}
 use Rattle.records.specs.declared.layout.Correction.{Correction}
 use Rattle.records.specs.declared.layout.Correction.TheVariants.{Corrected, Uncorrected}
 use Rattle.records.specs.declared.layout.Form.{Form}
 use Rattle.records.specs.declared.layout.Form.TheVariants.{Interleaved, Sequential, Vidicon}
 use Rattle.records.specs.declared.layout.Layout.{Layout}
 use Rattle.machine.specs.Findings.{place_of}
-use Rattle.machine.specs.Machines.{step, passed, fresh, begun, band_of, on_header, on_image, on_bad_line, on_first_trailer, on_trailer, on_attribute, line, one_more, missing, most_blocks, all_zero, trailing, trailed, lines_agree, no_group, ends_in_image, goes_on, next_group, ends_behind_trailer, expecting, closed}
+use Rattle.machine.specs.Machines.{fresh, begun, band_of, on_header, on_image, on_bad_line, on_first_trailer, on_trailer, on_attribute, line, one_more, missing, most_blocks, all_zero, trailing, trailed, lines_agree, goes_on, next_group, ends_behind_trailer, expecting}
 use Rattle.machine.specs.declared.machine.Expect.{Expect}
 use Rattle.machine.specs.declared.machine.Expect.TheVariants as expects
 use Rattle.machine.specs.declared.machine.Group.{Group}
 use Rattle.machine.specs.declared.machine.Machine.{Machine}
 use Rattle.machine.specs.declared.machine.Onward.TheVariants as onwards
-use Rattle.machine.specs.declared.machine.Place.{Place}
-use Rattle.survey.specs.Recordings.{Body, Line, Files, record_of, numbered, line_block, lines_from, before, attributes_file, image_file, trailer_file, closes, stretches, directory_on, closing}
-use Rattle.survey.specs.Surveys.{Fault}
-use Rattle.survey.specs.Validity.{body_length, Whole, content, header_record, Going, Begun, Fit, AllFit, all_lines, width, bands_wide, ValidFiles, ValidGroups}
-use Rattle.survey.proofs.Passing.{Spelt, spells}
+use Rattle.survey.specs.Recordings.{Body, Line, record_of, line_block, closing}
+use Rattle.survey.specs.Validity.{Fit}
+use Rattle.survey.proofs.Passing.{spells}
 use Rattle.survey.proofs.Running.{go}
 use Rattle.survey.proofs.Stretches.{closing_last}
 use Rattle.survey.proofs.Steps.{six, machine}
-use Rattle.survey.proofs.Groups.{files}
 use Rattle.survey.proofs.Accepting.{first_next}
 use Rattle.survey.proofs.Rests as rests
 use Rattle.survey.proofs.Rests.{open_file, behind-part, before_cons, open_more, open_over, open_file_is}
-use Rattle.survey.proofs.Inverse.{after, refused, was_passed, was_either, was_true, was_false, Begins, was_begun, Headed, header-says, zero_if, not_absent}
+use Rattle.survey.proofs.Inverse.{after, refused, was_passed, was_either, was_true, was_false, was_begun, header-says, zero_if, not_absent}
 use Rattle.survey.proofs.Recovering.{attribute_more, trailer_more, image_more, resumed_more, first_more, image_over, after_break, after_trailer, resumed_trailer, group_more, behind-header, behind_end, over, whole_lines, agreed, some_trailer}
 
 some_annotation : (c : Correction) → 1 ≤ annotations c

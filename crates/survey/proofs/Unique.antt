@@ -1,15 +1,15 @@
 -- A set is written from one valid recording only.
 use Rattle.std.proofs.Common.{◌≡◌, ℕ, ◌+◌, ◌*◌, ◌≤◌, Bool, true, false, cond, eqb, List, [], ◌∷◌, ◌++◌, length, drop, Some, None, sym, refl, ap, ◌∙◌, subst, append_assoc, arith, length-append}
 use Rattle.std.proofs.lemmas.List.{append_cancel_right}
-use Rattle.deck.specs.Tape.{Block, written, mark, bad, Reel, TapeSet}
+use Rattle.deck.specs.Tape.{Block, written, mark, Reel}
 use Rattle.records.specs.declared.layout.Form.{Form}
 use Rattle.records.specs.declared.layout.Form.TheVariants.{Interleaved, Sequential, Vidicon}
 use Rattle.records.specs.declared.layout.Layout.{Layout}
-use Rattle.records.specs.Directories.{layout_of, fixed}
+use Rattle.records.specs.Directories.{layout_of}
 use Rattle.records.specs.Records.{byte}
 use Rattle.machine.specs.Machines.{band_of}
 use Rattle.survey.specs.Recordings.{Body, Line, Files, Recording, record_of, numbered, line_block, lines_from, part, before, attributes_file, image_file, trailer_file, closes, stretches, reels, directory_on, closing, bound, written_as}
-use Rattle.survey.specs.Validity.{content, header_record, Going, Begun, all_lines, width, bands_wide, ValidFiles, ValidGroups, Valid}
+use Rattle.survey.specs.Validity.{content, Going, Begun, all_lines, width, bands_wide, ValidFiles, ValidGroups, Valid}
 use Rattle.survey.proofs.Accepting.{some_stretch}
 use Rattle.survey.proofs.Groups.{files, length-numbered, has_trailers}
 use Rattle.survey.proofs.Reels.{first_reel}

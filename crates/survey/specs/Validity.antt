@@ -1,5 +1,5 @@
 -- Which recordings the layout allows.
-use Rattle.std.specs.Prelude.{◌≡◌, ℕ, ◌+◌, ◌-◌, ◌*◌, ◌≤◌, Bool, true, false, cond, List, [], ◌∷◌, ◌++◌, length, Some, None, Option}
+use Rattle.std.specs.Prelude.{◌≡◌, ℕ, ◌+◌, ◌-◌, ◌*◌, ◌≤◌, true, false, List, [], ◌∷◌, ◌++◌, length, Some, None}
 use Rattle.records.specs.Directories.{layout_of, fixed}
 use Rattle.records.specs.Headers.{counts_fit, band_fits, trailers_fit, bands_fit, content_of}
 use Rattle.records.specs.Layouts.{record_length, ancillaries, annotations, stride}

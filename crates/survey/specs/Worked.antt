@@ -1,9 +1,9 @@
 -- Values of the definitions that the grammar shares with the code, worked out by hand from the layout.
-use Rattle.std.specs.Prelude.{◌≡◌, ℕ, Bool, true, false, List, [], ◌∷◌, ◌++◌, map, set, replicate, Some, None, slice_set}
+use Rattle.std.specs.Prelude.{◌≡◌, ℕ, true, false, List, [], ◌∷◌, ◌++◌, map, replicate, Some, None, slice_set}
 use Rattle.records.specs.Bands.{present}
 use Rattle.records.specs.Directories.{layout_of, fixed}
 use Rattle.records.specs.Headers.{band_fits, bands_fit}
-use Rattle.records.specs.Layouts.{record_length, ancillaries, annotations, stride}
+use Rattle.records.specs.Layouts.{ancillaries, annotations, stride}
 use Rattle.records.specs.declared.header.Content.TheVariants.{Mixed}
 use Rattle.records.specs.declared.layout.Correction.{Correction}
 use Rattle.records.specs.declared.layout.Correction.TheVariants.{Corrected, Uncorrected}

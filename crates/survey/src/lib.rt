@@ -6,5 +6,9 @@ mod reading;
 mod worked;
 
 pub use fault::TapeFault;
+pub use machine::{Accepted, Group, Place, Places, Summary};
 pub use reading::survey;
+pub use records::{
+    Bands, Cause, Content, Correction, DeckFault, Form, Layout, RecordFault, Sensor, SetFault,
+};
 pub use worked::worked_values;

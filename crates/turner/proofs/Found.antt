@@ -1,8 +1,8 @@
 -- A set that is turned is what the turned recording is written as.
-use Rattle.std.proofs.Common.{◌≡◌, ℕ, zero, suc, ◌+◌, ◌-◌, ◌<◌, ◌≤◌, Bool, true, false, cond, ◌&&◌, eqb, leb, ◌⊎◌, List, [], ◌∷◌, ◌++◌, map, length, get_or, replicate, Some, None, Ok, Err, Option, Result, sym, refl, ap, ◌∙◌, subst, inl, inr, ⊎_elim, append-nil, arith}
+use Rattle.std.proofs.Common.{◌≡◌, ℕ, zero, suc, ◌+◌, ◌-◌, ◌<◌, ◌≤◌, Bool, true, false, cond, eqb, List, [], ◌∷◌, map, length, get_or, Some, None, Ok, Err, Option, sym, refl, ap, ◌∙◌, subst, append-nil, arith}
 use Rattle.std.proofs.lemmas.Bool.{le-leb, eq-eqb, and_from, cond-true}
-use Rattle.deck.specs.Tape.{Block, written, mark, Reel, TapeSet, look}
-use Rattle.records.specs.Layouts.{record_length, sensor_in, ancillaries, annotations, stride}
+use Rattle.deck.specs.Tape.{written, Reel, TapeSet, look}
+use Rattle.records.specs.Layouts.{record_length, sensor_in, ancillaries, annotations}
 use Rattle.records.specs.Records.{byte}
 use Rattle.records.specs.declared.layout.Correction.{Correction}
 use Rattle.records.specs.declared.layout.Form.{Form}
@@ -12,10 +12,10 @@ use Rattle.machine.specs.Machines.{no_group}
 use Rattle.machine.specs.declared.accepted.Accepted.{Accepted}
 use Rattle.machine.specs.declared.machine.Group.{Group}
 use Rattle.survey.specs.Laws.{Obeys}
-use Rattle.survey.specs.Pictures.{picture, places_in, all_codes, all_rows}
+use Rattle.survey.specs.Pictures.{places_in, all_codes, all_rows}
 use Rattle.survey.specs.Placed.{Stood, StoodFrom}
 use Rattle.survey.specs.Recordings.{Body, Line, Files, Recording, record_of, stretches, reels, directory_on, bound, written_as}
-use Rattle.survey.specs.Validity.{body_length, header_record, ValidFiles, ValidGroups, Valid}
+use Rattle.survey.specs.Validity.{body_length, header_record, ValidFiles, ValidGroups}
 use Rattle.survey.proofs.Accepting.{some_stretch}
 use Rattle.survey.proofs.Reels.{first_reel}
 use Rattle.survey.proofs.Starting.{digit-one}
@@ -23,12 +23,11 @@ use Rattle.survey.proofs.Steps.{six}
 use Rattle.reader.specs.Bodies.{Delivery, body_of, body_at}
 use Rattle.reader.specs.Finding.{codes, index_of, band_file, line_spot, spot}
 use Rattle.reader.specs.Pictured.{body_size, line_or}
-use Rattle.reader.specs.declared.places.BandFile.{BandFile}
-use Rattle.reader.proofs.Proper.{From, from_less, own_place, Places, places_rise, Rows, few-trailers, rising, head_valid, proper}
-use Rattle.reader.proofs.Shelves.{Row, header_row, ancillary_row, annotation-row, trailer_row, whole_at}
+use Rattle.reader.proofs.Proper.{From, from_less, own_place, Places, places_rise, few-trailers, rising, head_valid, proper}
+use Rattle.reader.proofs.Shelves.{header_row, ancillary_row, annotation-row, trailer_row, whole_at}
 use Rattle.reader.proofs.Showing.{file_of, file_with, found_line, file_is}
-use Rattle.turner.specs.Shapes.{other_order, first_group, size, small, in_order, turning_of, remembered}
-use Rattle.turner.specs.Shown.{attribute_spot, trailer_spot, line_origin, readable, body_from, shown, turned}
+use Rattle.turner.specs.Shapes.{other_order, first_group, size, small, in_order, turning_of}
+use Rattle.turner.specs.Shown.{line_origin, readable, body_from, shown}
 use Rattle.turner.specs.Turns.{row_of, line_in, turn}
 use Rattle.turner.specs.declared.shape.Order.{Order}
 use Rattle.turner.specs.declared.shape.Order.TheVariants.{ByLine, ByBand}

@@ -1,7 +1,7 @@
 -- The directory of a turned recording.
-use Rattle.std.proofs.Common.{◌≡◌, ℕ, ◌+◌, ◌/◌, ◌%◌, ◌<◌, ◌≤◌, Bool, true, false, cond, ◌&&◌, eqb, List, [], ◌∷◌, ◌++◌, length, get_or, take, drop, set, Some, None, Option, sym, refl, ap, ◌∙◌, subst, arith, length-set}
+use Rattle.std.proofs.Common.{◌≡◌, ℕ, ◌+◌, ◌/◌, ◌%◌, Bool, true, false, cond, eqb, length, get_or, take, drop, set, Some, None, Option, sym, refl, ap, ◌∙◌, subst, arith, length-set}
 use Rattle.std.proofs.lemmas.List.{get_or-set_same, get_or-set_other, drop-set-lt}
-use Rattle.std.proofs.lemmas.Bool.{eq-eqb, eqb-true, and_parts, and_from, cond-true}
+use Rattle.std.proofs.lemmas.Bool.{eq-eqb, and_parts, and_from, cond-true}
 use Rattle.records.specs.Directories.{form_of, mission_of, correction_of, allowed, layout_by, layout_of, blank, fixed}
 use Rattle.records.specs.Layouts.{record_length}
 use Rattle.records.specs.Records.{byte}

@@ -1,25 +1,21 @@
 -- What turning keeps.
-use Rattle.std.proofs.Common.{◌≡◌, ℕ, zero, suc, List, length, Ok, Err, Result, sym, refl, ap, ◌∙◌, subst, arith}
+use Rattle.std.proofs.Common.{◌≡◌, ℕ, zero, suc, length, sym, refl, ap, ◌∙◌, arith}
 use Rattle.deck.specs.Tape.{TapeSet}
 use Rattle.records.specs.declared.layout.Form.{Form}
 use Rattle.records.specs.declared.layout.Form.TheVariants.{Interleaved, Sequential, Vidicon}
 use Rattle.records.specs.declared.layout.Layout.{Layout}
 use Rattle.machine.specs.Findings.{accepted}
-use Rattle.machine.specs.declared.accepted.Accepted.{Accepted}
-use Rattle.survey.specs.Laws.{Obeys}
-use Rattle.survey.specs.Pictures.{picture}
-use Rattle.survey.specs.Recordings.{Recording, stretches, reels, bound, written_as}
-use Rattle.survey.specs.Surveys.{Fault, surveyed}
+use Rattle.survey.specs.Recordings.{Recording, stretches, reels, written_as}
 use Rattle.survey.specs.Validity.{Valid}
 use Rattle.survey.proofs.Judging.{obeys}
 use Rattle.survey.proofs.Starting.{done, accepts}
 use Rattle.survey.proofs.Stretches.{length-bound}
 use Rattle.turner.specs.Laws.{ShowsPicture, pile, Kept}
-use Rattle.turner.specs.Shapes.{other_order, in_order, turning_of, remembered}
+use Rattle.turner.specs.Shapes.{other_order, in_order, remembered}
 use Rattle.turner.specs.Shown.{shown, turned}
 use Rattle.turner.specs.Turns.{other_form, turn}
 use Rattle.turner.proofs.Found.{shown-turned}
-use Rattle.turner.proofs.Preserved.{Turns, turns}
+use Rattle.turner.proofs.Preserved.{turns}
 use Rattle.turner.proofs.Twice.{twice}
 
 -- A recording of the scanner.

@@ -1,30 +1,27 @@
 -- A turned recording is valid, and shows the same picture.
-use Rattle.std.proofs.Common.{◌≡◌, ℕ, ◌+◌, ◌-◌, ◌*◌, ◌%◌, ◌<◌, ◌≤◌, Bool, true, false, cond, ◌&&◌, ◌||◌, eqb, ltb, leb, ◌⊎◌, List, [], ◌∷◌, ◌++◌, map, length, take, drop, Some, None, sym, refl, ap, ◌∙◌, subst, inl, inr, ⊎_elim, append-nil, arith}
-use Rattle.std.proofs.lemmas.Bool.{leb-true, eqb-true, and_parts, and_from, or_cases, or_left, or_right, cases_Bool, true≢false}
-use Rattle.records.specs.Directories.{layout_of, fixed}
-use Rattle.records.specs.Headers.{band_in, bands_in, content_of}
-use Rattle.records.specs.Layouts.{sensor_in, stride}
+use Rattle.std.proofs.Common.{◌≡◌, ℕ, ◌+◌, ◌%◌, ◌≤◌, Bool, true, false, cond, ◌&&◌, ◌||◌, eqb, ltb, leb, List, [], ◌∷◌, ◌++◌, map, length, take, drop, sym, refl, ap, ◌∙◌, subst, ⊎_elim, arith}
+use Rattle.std.proofs.lemmas.Bool.{leb-true, and_parts, and_from, or_cases, true≢false}
+use Rattle.records.specs.Directories.{fixed}
+use Rattle.records.specs.Headers.{band_in, bands_in}
+use Rattle.records.specs.Layouts.{sensor_in}
 use Rattle.records.specs.Records.{byte}
-use Rattle.records.specs.declared.header.Content.TheVariants.{One, Mixed}
 use Rattle.records.specs.declared.layout.Correction.{Correction}
 use Rattle.records.specs.declared.layout.Form.{Form}
 use Rattle.records.specs.declared.layout.Form.TheVariants.{Interleaved, Sequential, Vidicon}
 use Rattle.records.specs.declared.layout.Layout.{Layout}
 use Rattle.machine.specs.Machines.{band_of}
-use Rattle.survey.specs.Pictures.{Picture, picture, places_in, codes_in, all_codes, all_rows}
-use Rattle.survey.specs.Recordings.{Body, Line, Files, Recording, record_of, stretches, reels}
+use Rattle.survey.specs.Pictures.{Picture, picture, places_in, all_codes, all_rows}
+use Rattle.survey.specs.Recordings.{Body, Line, Files, Recording, record_of, reels}
 use Rattle.survey.specs.Validity.{content, header_record, ValidFiles, ValidGroups, Valid}
-use Rattle.survey.proofs.Groups.{Rising, rises}
-use Rattle.reader.proofs.Bands.{Below, places_below}
-use Rattle.reader.proofs.Proper.{From, Rows, Groups, all_groups, sequential_codes, rising, head_valid, proper}
+use Rattle.reader.proofs.Bands.{places_below}
+use Rattle.reader.proofs.Proper.{From, sequential_codes, rising, head_valid, proper}
 use Rattle.turner.specs.Changes.{directory_changed, mask_of}
-use Rattle.turner.specs.Turns.{other_form, other_layout, turned_directory, interleaved, turned_groups, turn}
-use Rattle.turner.specs.declared.shape.Order.{Order}
+use Rattle.turner.specs.Turns.{other_layout, turn}
 use Rattle.turner.specs.declared.shape.Order.TheVariants.{ByLine, ByBand}
-use Rattle.turner.proofs.Fronts.{form_in, changed-whole, ident_kept, names_turned, values_turned}
+use Rattle.turner.proofs.Fronts.{changed-whole, ident_kept, names_turned, values_turned}
 use Rattle.turner.proofs.Masks.{chosen, Upto, Chosen, choose, told_again, small_mask, some_mask, even_mask}
-use Rattle.turner.proofs.Separating.{separated_groups, SamePicture, separated_picture, separated_reels}
-use Rattle.turner.proofs.Woven.{apart, joined, one_valid, one-codes, one_rows}
+use Rattle.turner.proofs.Separating.{separated_groups, separated_picture, separated_reels}
+use Rattle.turner.proofs.Woven.{apart, one_valid, one-codes, one_rows}
 
 -- The codes of bands that follow each other: 4 to 8, and 8 only for mission 3.
 upto_back : (n : ℕ) (xs ys : List ℕ) → Upto n (xs ++ ys) → Upto n ys

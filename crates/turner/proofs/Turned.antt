@@ -16,7 +16,7 @@ use Rattle.survey.proofs.Reels.{first_reel}
 use Rattle.reader.specs.Bodies.{body_at}
 use Rattle.reader.specs.Finding.{codes, band_file, spot}
 use Rattle.turner.specs.Changes.{directory_changed, order_byte, header_by_line, header_by_band, header_changed, mask_of, code_at, digit}
-use Rattle.turner.specs.Shapes.{first_group, groups, images, sheets, trailers, size}
+use Rattle.turner.specs.Shapes.{first_group, images, sheets, trailers, size}
 use Rattle.turner.specs.Shown.{attribute_spot, trailer_spot, attribute_type, line_origin, readable, body_from, record_block, piece_block, shown}
 use Rattle.turner.specs.Turns.{row_of, line_in, woven, with_lines, interleaved, band_by_band, turned_directory, turned_groups, turn}
 use Rattle.turner.specs.declared.piece.Piece.TheVariants.{Directory, Header, Attribute, Image, Trailer}

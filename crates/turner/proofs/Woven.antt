@@ -1,26 +1,24 @@
 -- Bands that follow each other, interleaved.
-use Rattle.std.proofs.Common.{◌≡◌, ℕ, zero, suc, ◌+◌, ◌-◌, ◌*◌, ◌/◌, ◌%◌, ◌<◌, ◌≤◌, Bool, true, false, cond, not, ◌&&◌, ◌||◌, eqb, ltb, leb, ◌⊎◌, List, [], ◌∷◌, ◌++◌, map, length, get_or, set, replicate, Some, None, Option, sym, refl, ap, ◌∙◌, subst, inl, inr, ⊎_elim, append-nil, arith, length-append, length-set}
+use Rattle.std.proofs.Common.{◌≡◌, ℕ, zero, suc, ◌+◌, ◌-◌, ◌*◌, ◌/◌, ◌%◌, ◌<◌, ◌≤◌, Bool, true, false, cond, not, ◌&&◌, eqb, leb, ◌⊎◌, List, [], ◌∷◌, ◌++◌, map, length, get_or, set, replicate, Some, None, Option, sym, refl, ap, ◌∙◌, subst, inl, inr, ⊎_elim, append-nil, arith, length-set}
 use lib.ListN.{length-map, length-replicate}
-use Rattle.std.proofs.lemmas.List.{get_or_append_left, get_or-append_right, get_or-set_same, get_or-set_other}
-use Rattle.std.proofs.lemmas.Bool.{eq-eqb, ne_eqb, eqb-true, and_parts, and_from, or_cases, or_right, cond-true, cond-false}
+use Rattle.std.proofs.lemmas.List.{get_or-set_same, get_or-set_other}
+use Rattle.std.proofs.lemmas.Bool.{eq-eqb, eqb-true, and_parts, and_from}
 use Rattle.records.specs.Bands.{present}
-use Rattle.records.specs.Headers.{counts_fit, band_in, band_fits, trailers_fit, bands_in, bands_fit, content_of}
-use Rattle.records.specs.Layouts.{record_length, stride, ancillaries, annotations}
+use Rattle.records.specs.Headers.{counts_fit, trailers_fit, bands_in}
+use Rattle.records.specs.Layouts.{stride, ancillaries, annotations}
 use Rattle.records.specs.Records.{byte}
-use Rattle.records.specs.declared.header.Content.{Content}
-use Rattle.records.specs.declared.header.Content.TheVariants.{One, Mixed}
+use Rattle.records.specs.declared.header.Content.TheVariants.{Mixed}
 use Rattle.records.specs.declared.layout.Correction.{Correction}
-use Rattle.records.specs.declared.layout.Form.{Form}
-use Rattle.records.specs.declared.layout.Form.TheVariants.{Interleaved, Sequential, Vidicon}
+use Rattle.records.specs.declared.layout.Form.TheVariants.{Interleaved, Sequential}
 use Rattle.records.specs.declared.layout.Layout.{Layout}
 use Rattle.machine.specs.Machines.{all_zero, missing}
 use Rattle.survey.specs.Pictures.{if_there, places_in, codes_in, rows_in, every, all_codes, all_rows}
-use Rattle.survey.specs.Recordings.{Body, Line, Files, record_of}
-use Rattle.survey.specs.Validity.{body_length, content, header_record, Begun, Fit, AllFit, all_lines, ValidFiles, ValidGroups}
+use Rattle.survey.specs.Recordings.{Body, Line, Files}
+use Rattle.survey.specs.Validity.{body_length, content, header_record, Begun, Fit, AllFit, ValidFiles}
 use Rattle.reader.specs.Finding.{index_of}
-use Rattle.reader.proofs.Bands.{every_at, Below, places_below}
-use Rattle.reader.proofs.Proper.{From, own_place, Places, Sized, SizedAll, sized_at, Rows, length-every}
-use Rattle.turner.specs.Changes.{put, header_by_line, mask_of}
+use Rattle.reader.proofs.Bands.{every_at, Below}
+use Rattle.reader.proofs.Proper.{From, own_place, Sized, SizedAll, sized_at, Rows, length-every}
+use Rattle.turner.specs.Changes.{header_by_line, mask_of}
 use Rattle.turner.specs.Turns.{row_of, line_in, across, woven, interleaved}
 use Rattle.turner.proofs.Weaving.{length-across, length-woven, getD_woven}
 

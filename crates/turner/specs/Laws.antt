@@ -1,5 +1,5 @@
 -- What turning does to a set, in the layout's words.
-use Rattle.std.specs.Prelude.{◌≡◌, ℕ, zero, suc, List, length, Err, ◌≢◌}
+use Rattle.std.specs.Prelude.{◌≡◌, ℕ, zero, suc, length, Err, ◌≢◌}
 use Rattle.deck.specs.Tape.{TapeSet}
 use Rattle.records.specs.declared.layout.Form.TheVariants.{Interleaved, Vidicon}
 use Rattle.survey.specs.Pictures.{picture}

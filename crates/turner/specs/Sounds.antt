@@ -19,7 +19,7 @@ use Rattle.reader.specs.Finding.{codes}
 use Rattle.reader.specs.declared.places.Spot.{Spot}
 use Rattle.turner.specs.Changes.{changed}
 use Rattle.turner.specs.Pieces.{groups_from, pieces, piece_at, piece_on}
-use Rattle.turner.specs.Shapes.{first_group, groups, groups_in, images_in, sheets, trailers, small, fits}
+use Rattle.turner.specs.Shapes.{first_group, groups, groups_in, images_in, sheets, small, fits}
 use Rattle.turner.specs.Shown.{source, bears, readable, body_from, record_block, source_block, piece_block, shown_reel, shown, Sized, origin_kind, shown_kind}
 use Rattle.turner.specs.declared.piece.Piece.{Piece}
 use Rattle.turner.specs.declared.piece.Piece.TheVariants.{Mark, Directory, Header, Attribute, Image, Trailer}

@@ -1,7 +1,7 @@
 -- How many blocks of a reel, and how many reels of a set, have been written.
-use Rattle.std.proofs.Common.{◌≡◌, ℕ, zero, suc, ◌+◌, ◌<◌, ◌≤◌, List, [], ◌∷◌, ◌++◌, length, drop, Some, None, Option, sym, refl, ap, ◌∙◌, subst, append_assoc, append-nil, arith}
+use Rattle.std.proofs.Common.{◌≡◌, ℕ, zero, suc, ◌+◌, ◌<◌, ◌≤◌, List, [], ◌∷◌, ◌++◌, length, drop, Some, None, Option, sym, refl, ap, ◌∙◌, append_assoc, append-nil, arith}
 use Rattle.std.specs.List.{flat_map}
-use Rattle.deck.specs.Tape.{Block, Reel, TapeSet, nth, from_one, look_on, look}
+use Rattle.deck.specs.Tape.{Reel, TapeSet, nth, from_one, look_on, look}
 use Rattle.image.specs.Strip.{block_bytes, reel_bytes, encoded}
 use Rattle.listing.specs.Blocks.{reel_or_none, reel_of}
 use Rattle.turning.specs.Written.{block_at}

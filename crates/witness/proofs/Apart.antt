@@ -1,10 +1,9 @@
 -- Answers tell pictures and sheets apart.
-use Rattle.std.proofs.Common.{◌≡◌, ℕ, zero, suc, ◌+◌, ◌-◌, ◌<◌, ◌≤◌, Bool, true, false, cond, ◌&&◌, ◌||◌, eqb, ltb, leb, ◌⊎◌, List, [], ◌∷◌, ◌++◌, length, get_or, drop, replicate, Some, None, Ok, Err, Option, Result, sym, refl, ap, ◌∙◌, subst, ⊎_elim, append-nil, arith}
+use Rattle.std.proofs.Common.{◌≡◌, ℕ, zero, suc, ◌+◌, ◌-◌, ◌<◌, ◌≤◌, Bool, true, false, cond, ◌&&◌, ltb, leb, List, [], ◌∷◌, ◌++◌, length, get_or, drop, replicate, Some, None, Ok, Err, Option, sym, refl, ap, ◌∙◌, subst, append-nil, arith}
 use lib.ListN.{length-replicate}
 use Rattle.std.proofs.lemmas.List.{drop_all}
-use Rattle.std.proofs.lemmas.Bool.{le-leb, le-ltb, eq-eqb, cases_lt, cond-true, cond-false, and_from, or_right}
-use Rattle.deck.specs.Tape.{nth, from_one}
-use Rattle.deck.proofs.Looks.{nth-there, nth_past}
+use Rattle.std.proofs.lemmas.Bool.{le-leb, le-ltb, cond-true, cond-false, and_from, or_right}
+use Rattle.deck.specs.Tape.{nth}
 use Rattle.records.specs.declared.layout.Correction.{Correction}
 use Rattle.records.specs.declared.layout.Correction.TheVariants.{Corrected, Uncorrected}
 use Rattle.records.specs.declared.layout.Sensor.{Sensor}
@@ -14,17 +13,16 @@ use Rattle.survey.specs.Recordings.{Body}
 use Rattle.survey.specs.Recordings as recordings
 use Rattle.survey.specs.Surveys.{Fault}
 use Rattle.survey.specs.Validity.{Whole}
-use Rattle.reader.specs.Answers.{Told, summary, code, delivered, refused, sensor_letter, correction_letter, told_by}
-use Rattle.reader.specs.Bodies.{Delivery, told_delivery, buffer_after, code_of}
-use Rattle.reader.specs.Finding.{index_of}
+use Rattle.reader.specs.Answers.{Told, code, delivered, refused, sensor_letter, correction_letter, told_by}
+use Rattle.reader.specs.Bodies.{Delivery, code_of}
 use Rattle.reader.specs.Refusals.{caller}
 use Rattle.reader.specs.declared.call.Call.{Call}
-use Rattle.reader.specs.declared.call.Call.TheVariants.{Survey, Band, Ident, Line, Sheet, Tally}
+use Rattle.reader.specs.declared.call.Call.TheVariants.{Survey, Band, Ident, Line, Sheet}
 use Rattle.reader.specs.Pictured.{body_size, line_or, row_line, pictured_line, of_kind, no_sheets, sheet_or, band_sheet, pictured_sheet, pictured_ident}
-use Rattle.witness.specs.Pictured.{if_known, code_if_known, delivery, outline_of, pictured, pictured_reply, pictured_behind}
+use Rattle.witness.specs.Pictured.{if_known, code_if_known, delivery, outline_of, pictured_reply, pictured_behind}
 use Rattle.witness.specs.Promises.{Callable, AllBytes, Buffer, Possible, OfPicture, Five}
 use Rattle.witness.specs.Replies.{Question, Reply, is_survey, has_survey}
-use Rattle.reader.proofs.Proper.{From, own_place, Bytes, byte_at, Sized, sized_at, Rows, Sheeted, SheetedAll, Proper}
+use Rattle.reader.proofs.Proper.{own_place, byte_at, Sized, sized_at, Rows, Sheeted, SheetedAll, Proper}
 
 -- Equal lists, and equal pairs.
 module _ {X : Type 0} where

@@ -1,5 +1,5 @@
 -- Two answers are equal exactly where all that they say is, and their buffers are, byte by byte.
-use Rattle.std.proofs.Common.{◌≡◌, ℕ, ◌+◌, ◌*◌, ◌==◌, Bool, true, false, ◌&&◌, Ok, Err, Result, Decides, sym, refl, ap, ◌∙◌, true≢false, vec_items, arith}
+use Rattle.std.proofs.Common.{◌≡◌, ℕ, ◌+◌, ◌*◌, ◌==◌, Bool, false, ◌&&◌, Ok, Err, Result, Decides, sym, refl, ap, ◌∙◌, true≢false, vec_items, arith}
 use Rattle.std.specs.Cmp.Lexicographic.{pointwise}
 use Rattle.std.proofs.lemmas.Bool.Decides.{Decides-eqb}
 use Rattle.std.proofs.lemmas.Slice.Eq.{slice_eq-Decides}
@@ -8,11 +8,8 @@ use denote.Enum.Declared.{Declared, tag_of}
 use Rattle.records.specs.Faults.{deck_number, record_number, set_number, number, layer}
 use Rattle.records.specs.contracts.fault.CausePartialEq.TheImpl as causes_eq
 use Rattle.records.specs.contracts.fault.DeckFault.{the_type as deck_faults}
-use Rattle.records.specs.contracts.fault.DeckFaultPartialEq.TheImpl as decks_eq
 use Rattle.records.specs.contracts.fault.RecordFault.{the_type as record_faults}
-use Rattle.records.specs.contracts.fault.RecordFaultPartialEq.TheImpl as records_eq
 use Rattle.records.specs.contracts.fault.SetFault.{the_type as set_faults}
-use Rattle.records.specs.contracts.fault.SetFaultPartialEq.TheImpl as sets_eq
 use Rattle.records.specs.contracts.layout.Correction.{the_type as corrections}
 use Rattle.records.specs.contracts.layout.CorrectionPartialEq.TheImpl as corrections_eq
 use Rattle.records.specs.contracts.layout.Sensor.{the_type as sensors}
@@ -32,12 +29,10 @@ use Rattle.records.specs.declared.layout.Sensor.TheVariants.{Mss, Rbv}
 use Rattle.survey.specs.Surveys.{Fault, told_fault}
 use Rattle.survey.specs.contracts.fault.TapeFaultPartialEq.TheImpl as faults_eq
 use Rattle.survey.specs.declared.fault.TapeFault.{TapeFault}
-use Rattle.reader.specs.Answers.{Told, summary, sensor_letter, correction_letter, code, delivered, counted, refused, outlined, told_answer}
+use Rattle.reader.specs.Answers.{summary, sensor_letter, correction_letter, code, delivered, counted, refused, outlined, told_answer}
 use Rattle.reader.specs.Refusals.{caller_number, told_refusal}
-use Rattle.reader.specs.contracts.call.AnswerPartialEq.TheImpl as answers_eq
 use Rattle.reader.specs.contracts.call.OutlinePartialEq.TheImpl as outlines_eq
 use Rattle.reader.specs.contracts.refusal.CallerFault.{the_type as caller_faults}
-use Rattle.reader.specs.contracts.refusal.CallerFaultPartialEq.TheImpl as callers_eq
 use Rattle.reader.specs.contracts.refusal.RefusalPartialEq.TheImpl as refusals_eq
 use Rattle.reader.specs.declared.call.Answer.{Answer}
 use Rattle.reader.specs.declared.call.Answer.TheVariants as answers

@@ -1,18 +1,16 @@
 -- The promise over two sets.
-use Rattle.std.proofs.Common.{◌≡◌, ℕ, List, [], ◌∷◌, ◌++◌, length, sym, refl, ap, ◌∙◌, append_assoc, append-nil}
+use Rattle.std.proofs.Common.{◌≡◌, ℕ, List, [], ◌∷◌, ◌++◌, sym, refl, ap, ◌∙◌, append_assoc, append-nil}
 use Rattle.deck.specs.Tape.{TapeSet, Sound}
 use Rattle.survey.specs.Pictures.{Picture, Sheets, picture, sheets}
-use Rattle.survey.specs.Recordings.{Recording, written_as}
 use Rattle.survey.specs.Surveys.{surveyed}
-use Rattle.survey.specs.Validity.{Valid}
 use Rattle.survey.proofs.Judging.{judged}
 use Rattle.reader.specs.declared.call.Call.{Call}
 use Rattle.reader.specs.declared.call.Call.TheVariants.{Survey, Band, Ident, Line, Sheet, Tally}
-use Rattle.turner.specs.Laws.{ShowsPicture, pile}
+use Rattle.turner.specs.Laws.{pile}
 use Rattle.turner.proofs.Keeping.{piles}
 use Rattle.witness.specs.Pictured.{pictured_reply, pictured_behind}
-use Rattle.witness.specs.Promises.{OfPicture, Five, AlikeFive, AlikeSix, ToldApart, UnderTurners, Promise}
-use Rattle.witness.specs.Replies.{Question, reply, replies_behind, replies}
+use Rattle.witness.specs.Promises.{OfPicture, Five, ToldApart, UnderTurners, Promise}
+use Rattle.witness.specs.Replies.{Question, reply, replies_behind}
 use Rattle.witness.proofs.Apart.{pictures_same, both_same}
 use Rattle.reader.proofs.Proper.{proper}
 use Rattle.witness.proofs.Telling.{told_after}

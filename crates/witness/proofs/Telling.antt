@@ -1,26 +1,25 @@
 -- Lists of calls over an accepted set, and over one with a fault.
-use Rattle.std.proofs.Common.{◌≡◌, ℕ, ◌+◌, min, Bool, true, false, cond, List, [], ◌∷◌, ◌++◌, map, length, IfOk, Some, None, Ok, Err, Option, Result, sym, refl, ap, ◌∙◌, subst, arith}
+use Rattle.std.proofs.Common.{◌≡◌, ℕ, min, Bool, true, false, cond, List, [], ◌∷◌, ◌++◌, map, length, IfOk, Some, None, Ok, Err, Option, Result, sym, refl, ap, ◌∙◌, arith}
 use Rattle.deck.specs.Tape.{TapeSet, Sound, from_one}
 use Rattle.records.specs.Layouts.{sensor_in}
 use Rattle.records.specs.declared.layout.Layout.{Layout}
 use Rattle.machine.specs.Findings.{accepted}
 use Rattle.machine.specs.declared.accepted.Accepted.{Accepted}
-use Rattle.survey.specs.Laws.{Obeys, Breaks, Judged}
+use Rattle.survey.specs.Laws.{Obeys}
 use Rattle.survey.specs.Pictures.{Picture, Sheets, picture, sheets, all_codes}
 use Rattle.survey.specs.Recordings.{Recording, written_as}
 use Rattle.survey.specs.Surveys.{Fault, surveyed}
 use Rattle.survey.specs.Validity.{Valid}
 use Rattle.survey.proofs.Judging.{judged, obeys}
 use Rattle.survey.proofs.Starting.{done, accepts}
-use Rattle.reader.specs.Answers.{Told, summary, sensor_letter, correction_letter, code, delivered, counted, refused, outlined, told_by, answer}
+use Rattle.reader.specs.Answers.{summary, sensor_letter, correction_letter, code, counted, outlined, told_by}
 use Rattle.reader.specs.Finding.{codes}
-use Rattle.reader.specs.Bodies.{Delivery, code_of, outline, told_delivery, buffer_after, line_answer, sheet_answer, ident_answer, band_answer, survey_answer, accepted_by}
+use Rattle.reader.specs.Bodies.{code_of, outline, line_answer, sheet_answer, ident_answer, band_answer, survey_answer, accepted_by}
 use Rattle.reader.specs.declared.call.Call.{Call}
 use Rattle.reader.specs.declared.call.Call.TheVariants.{Survey, Band, Ident, Line, Sheet, Tally}
 use Rattle.reader.specs.Pictured.{pictured_line, pictured_sheet, pictured_ident}
-use Rattle.witness.specs.Pictured.{outline_of, if_known, code_if_known, delivery, brings, lines_brought, pictured, pictured_reply, pictured_behind, pictured_replies, faulty, Shown}
-use Rattle.witness.specs.Replies.{Question, Reply, has_survey, accepted_after, one_if, delivers, lines_behind, remembered, reply_of, reply, replies_behind, replies}
-use Rattle.witness.proofs.Runs.{pair}
+use Rattle.witness.specs.Pictured.{outline_of, if_known, code_if_known, delivery, brings, lines_brought, pictured_reply, pictured_behind, pictured_replies, faulty, Shown}
+use Rattle.witness.specs.Replies.{Question, Reply, has_survey, accepted_after, one_if, delivers, lines_behind, reply, replies_behind, replies}
 use Rattle.reader.proofs.Showing.{line-pictured, sheet_pictured, ident_pictured}
 
 module _ (a : Accepted) (tape : TapeSet) (ob : Obeys a tape) where

@@ -1,5 +1,5 @@
 -- What calls answer over an accepted set, told by its picture and its sheets.
-use Rattle.std.specs.Prelude.{◌≡◌, ℕ, ◌+◌, min, Bool, true, false, List, [], ◌∷◌, ◌++◌, map, length, Ok, Err}
+use Rattle.std.specs.Prelude.{◌≡◌, ℕ, ◌+◌, min, Bool, true, false, List, [], ◌∷◌, ◌++◌, map, length, Err}
 use Rattle.deck.specs.Tape.{TapeSet, from_one}
 use Rattle.survey.specs.Laws.{Judged}
 use Rattle.survey.specs.Pictures.{Picture, Sheets, picture, sheets}

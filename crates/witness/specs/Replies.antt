@@ -1,6 +1,6 @@
 -- What a call answers after other calls, told by what these did to the set's reader: whether a survey was among them, and how many lines they
 -- delivered.
-use Rattle.std.specs.Prelude.{ℕ, ◌+◌, min, Bool, true, false, cond, ◌||◌, List, [], ◌∷◌, ◌++◌, map, length, None, Ok, Err, vec_items, Option}
+use Rattle.std.specs.Prelude.{ℕ, ◌+◌, min, Bool, true, false, cond, ◌||◌, List, [], ◌∷◌, ◌++◌, length, None, Ok, Err, vec_items, Option}
 use Rattle.deck.specs.Tape.{TapeSet}
 use Rattle.machine.specs.declared.accepted.Accepted.{Accepted}
 use Rattle.survey.specs.Surveys.{surveyed}

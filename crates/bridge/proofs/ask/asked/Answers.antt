@@ -1,7 +1,6 @@
-use Rattle.std.proofs.Common.{[], ◌∷◌, map, get_or, take, vec_items, sym, refl, ap, ◌∙◌}
-use Rattle.std.proofs.lemmas.List.{map_push, map_more, take_all}
+use Rattle.std.proofs.Common.{[], ◌∷◌, map, vec_items, refl, ap, ◌∙◌}
+use Rattle.std.proofs.lemmas.List.{take_all}
 use Rattle.std.proofs.lemmas.Slice.{pushed}
-use Rattle.witness.specs.Replies as replies
 use Rattle.bridge.specs.Asks.{question}
 use Rattle.bridge.proofs.Sums.{asked_more}
 use Rattle.bridge.proofs.ask.asked.Goals as goal

@@ -1,8 +1,5 @@
-use Rattle.std.proofs.Common.{◌≡◌, [], ◌∷◌, ◌++◌, map, vec_items, sym, refl, ap, ◌∙◌}
-use Rattle.std.proofs.lemmas.List.{map_push}
+use Rattle.std.proofs.Common.{vec_items, refl}
 use Rattle.std.proofs.lemmas.Slice.{pushed}
-use Rattle.witness.specs.Replies.{answered}
-use Rattle.bridge.specs.Answers.{all_words, all_buffers}
 use Rattle.bridge.proofs.Sums.{words_more, buffers_more}
 use Rattle.bridge.proofs.words.tell.Goals as goal
 

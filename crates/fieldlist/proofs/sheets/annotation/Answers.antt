@@ -1,6 +1,5 @@
 use Rattle.std.proofs.Common.{◌≡◌, ◌≤◌, ◌++◌, length, IfOk, string_bytes, codes, decimal, sym, ap, ◌∙◌, subst, arith, length-take}
 use Rattle.reader.specs.Bodies.{Delivery, sheet_answer}
-use Rattle.reader.specs.Refusals.{told_refusal}
 use Rattle.fieldlist.specs.Records.{annotation_lines, refused_line}
 use Rattle.fieldlist.specs.Sheets.{annotation_name, delivered_lines}
 use Rattle.fieldlist.proofs.Deliveries.{zeros, room, delivered, delivered-fits, refused_by, read_text}

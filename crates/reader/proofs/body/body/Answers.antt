@@ -1,4 +1,4 @@
-use Rattle.std.proofs.Common.{◌≡◌, ◌-◌, take, drop, Ok, sym, refl, ap, ◌∙◌, subst, arith}
+use Rattle.std.proofs.Common.{◌-◌, take, drop, Ok, sym, refl, ap, ◌∙◌, subst, arith}
 use Rattle.deck.specs.Tape.{look}
 use Rattle.deck.proofs.Looks.{Read, fetched_record}
 use Rattle.reader.specs.Bodies.{told_delivery, buffer_after}

@@ -1,4 +1,4 @@
-use Rattle.std.proofs.Common.{◌-◌, length, sym, ap, ◌∙◌, ⊎_elim, arith}
+use Rattle.std.proofs.Common.{◌-◌, sym, ap, ◌∙◌, ⊎_elim, arith}
 use Rattle.deck.specs.Tape.{from_one}
 use Rattle.deck.proofs.Looks.{from_one_is, nth-there, nth_past}
 use Rattle.reader.proofs.reading.code_at.Goals as goal

@@ -1,4 +1,4 @@
-use Rattle.std.proofs.Common.{◌≡◌, ℕ, length, replicate, Some, Ok, sym, refl, ap, ◌∙◌, arith, rules}
+use Rattle.std.proofs.Common.{◌≡◌, ℕ, length, replicate, Some, Ok, sym, ap, ◌∙◌, arith, rules}
 use Rattle.deck.specs.Answers.{fetched}
 use Rattle.deck.specs.Tape.{look}
 use Rattle.deck.specs.declared.Kind.TheVariants.{Record}
