@@ -3,7 +3,7 @@
 
 mod laws;
 mod measured;
-mod records;
+mod record_lines;
 mod sheets;
 mod shown;
 mod tapes;

@@ -2,7 +2,7 @@
 ghost use Rattle.std.specs.Prelude.{◌≡◌, IfOk, string_bytes};
 ghost use Rattle.fieldlist.specs.Measured.{measured, line_text, wanted_text};
 
-use super::records::{image_lines, record_of, refused_line};
+use super::record_lines::{image_lines, record_of, refused_line};
 use super::sheets::{LONGEST_BODY, number};
 use deck::Deck;
 use fields::FieldFault;

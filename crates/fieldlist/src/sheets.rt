@@ -4,7 +4,7 @@ ghost use Rattle.reader.specs.Refusals.{told_refusal};
 ghost use Rattle.listing.specs.Tapes.{each, present};
 ghost use Rattle.fieldlist.specs.Sheets.{annotation, annotations_to};
 
-use super::records::{annotation_lines, record_of, refused_line};
+use super::record_lines::{annotation_lines, record_of, refused_line};
 use deck::Deck;
 use listing::band_name;
 use reader::{Reader, Refusal};

@@ -5,7 +5,7 @@ use Rattle.fields.specs.declared.annotation.Processing.{Processing}
 use Rattle.fieldlist.specs.Records.{field_line}
 use Rattle.fieldlist.specs.Values.{part_value, letter_value}
 use Rattle.fieldlist.proofs.Lines.{known, six}
-use Rattle.fieldlist.proofs.records.annotation_lines.Goals as goal
+use Rattle.fieldlist.proofs.record_lines.annotation_lines.Goals as goal
 
 pub returns : goal.returns
 returns c =
