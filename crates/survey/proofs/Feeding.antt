@@ -1,11 +1,11 @@
 -- The survey's reading, block by block and reel by reel.
-use Rattle.std.proofs.Common.{◌≡◌, ℕ, ◌+◌, ◌-◌, ◌<◌, ◌≤◌, Bool, true, false, [], length, get_or, drop, is_some, Some, None, Ok, Err, sym, ap, ◌∙◌, ⊎_elim, arith}
+use Rattle.std.proofs.Common.{◌≡◌, ℕ, ◌+◌, ◌-◌, ◌<◌, ◌≤◌, Bool, true, false, [], length, get_or, drop, is_some, Some, None, Ok, Err, sym, refl, ap, ◌∙◌, ⊎_elim, arith}
 use Rattle.std.proofs.lemmas.List.{at_drop_more, at_drop_all}
 use Rattle.std.proofs.lemmas.Bool.{cases_lt, cases_Bool, true≢false, false≢true}
 use Rattle.deck.specs.Tape.{mark, Reel, TapeSet, look}
 use Rattle.deck.proofs.Looks.{look-there, look_no_block}
 use Rattle.machine.specs.Findings.{place_of, start, accepted}
-use Rattle.machine.specs.Machines.{step}
+use Rattle.machine.specs.Machines.{Steady, step}
 use Rattle.survey.specs.Surveys.{Fault, placed, then, feed_reel, feed, surveyed}
 use Rattle.machine.specs.declared.machine.Machine.{Machine}
 
@@ -98,3 +98,7 @@ fault_of_set set e h = ap (λ v. then v (λ m. Ok (accepted m))) h
 
 pub accepted_of_set : (set : TapeSet) (m : Machine) → Ok m ≡ feed (start (length set)) 1 set → Ok (accepted m) ≡ surveyed set
 accepted_of_set set m h = ap (λ v. then v (λ n. Ok (accepted n))) h
+
+-- The machine before the first block is steady.
+pub steady_start : (n : ℕ) → n ≤ 9 → Steady (start n)
+steady_start n h = (refl, (h, omega arith))
