@@ -1,9 +1,9 @@
 -- Two answers are equal exactly where all that they say is, and their buffers are, byte by byte.
-use Rattle.std.proofs.Common.{◌≡◌, ℕ, ◌+◌, ◌*◌, ◌==◌, Bool, false, ◌&&◌, Ok, Err, Result, Decides, sym, refl, ap, ◌∙◌, true≢false, vec_items, arith}
+use Rattle.std.proofs.Common.{◌≡◌, ℕ, ◌-◌, ◌/◌, ◌==◌, Bool, false, ◌&&◌, Ok, Err, Result, Decides, sym, refl, ap, ◌∙◌, true≢false, vec_items, arith}
 use Rattle.std.specs.Cmp.Lexicographic.{pointwise}
 use Rattle.std.proofs.lemmas.Bool.Decides.{Decides-eqb}
 use Rattle.std.proofs.lemmas.Slice.Eq.{slice_eq-Decides}
-use denote.Enum.Bare.{sameb}
+use denote.Enum.Bare.{Bare, sameb, same_true}
 use denote.Enum.Declared.{Declared, tag_of}
 use Rattle.records.specs.Faults.{deck_number, record_number, set_number, number, layer}
 use Rattle.records.specs.contracts.fault.CausePartialEq.TheImpl as causes_eq
@@ -11,9 +11,7 @@ use Rattle.records.specs.contracts.fault.DeckFault.{the_type as deck_faults}
 use Rattle.records.specs.contracts.fault.RecordFault.{the_type as record_faults}
 use Rattle.records.specs.contracts.fault.SetFault.{the_type as set_faults}
 use Rattle.records.specs.contracts.layout.Correction.{the_type as corrections}
-use Rattle.records.specs.contracts.layout.CorrectionPartialEq.TheImpl as corrections_eq
 use Rattle.records.specs.contracts.layout.Sensor.{the_type as sensors}
-use Rattle.records.specs.contracts.layout.SensorPartialEq.TheImpl as sensors_eq
 use Rattle.records.specs.declared.fault.Cause.{Cause}
 use Rattle.records.specs.declared.fault.Cause.TheVariants.{Deck, Record, Set}
 use Rattle.records.specs.declared.fault.DeckFault.{DeckFault}
@@ -47,42 +45,49 @@ use Rattle.witness.specs.declared.calls.Answered.{Answered}
 use Rattle.witness.proofs.Alike.{both}
 use Rattle.witness.proofs.Runs.{pair}
 
--- Variants whose numbers rise by some step, in their order.
-module _ (D : Declared) (num : D.D → ℕ) (first : ℕ) (numbered : (x : D.D) → num x ≡ tag_of D x + first) where
-  bare : (x y : D.D) → Decides (sameb D x y) (num x ≡ num y)
-  bare x y =
-      let d = Decides-eqb (tag_of D x) (tag_of D y) in
-      (λ t. numbered x ∙ ap (λ n. n + first) (d.0 t) ∙ sym (numbered y), λ h. d.1 (let a = numbered x in let b = numbered y in omega (arith, a, b, h)))
+-- Variants without fields, each told by a number from which its place among them can be read.
+module _ (D : Declared) (fieldless : Bare D.parts) (num : D.D → ℕ) (place : ℕ → ℕ) (placed : (x : D.D) → place (num x) ≡ tag_of D x) where
+  by_number : (x y : D.D) → Decides (sameb D x y) (num x ≡ num y)
+  by_number x y =
+      (λ t. ap num (same_true D fieldless x y t), λ h. (Decides-eqb (tag_of D x) (tag_of D y)).1 (sym (placed x) ∙ ap place h ∙ placed y))
 
-deck_numbered : (z : DeckFault) → deck_number z ≡ tag_of deck_faults z + 11
-deck_numbered decks.Absent = refl
-deck_numbered decks.Bad = refl
+deck_placed : (z : DeckFault) → deck_number z - 11 ≡ tag_of deck_faults z
+deck_placed decks.Absent = refl
+deck_placed decks.Bad = refl
 
-record_numbered : (z : RecordFault) → record_number z ≡ tag_of record_faults z + 21
-record_numbered records.MarkForRecord = refl
-record_numbered records.RecordForMark = refl
-record_numbered records.Length = refl
-record_numbered records.FifthByte = refl
-record_numbered records.Type = refl
-record_numbered records.Number = refl
+record_placed : (z : RecordFault) → record_number z - 21 ≡ tag_of record_faults z
+record_placed records.MarkForRecord = refl
+record_placed records.RecordForMark = refl
+record_placed records.Length = refl
+record_placed records.FifthByte = refl
+record_placed records.Type = refl
+record_placed records.Number = refl
 
-set_numbered : (z : SetFault) → set_number z ≡ tag_of set_faults z + 31
-set_numbered sets.Directory = refl
-set_numbered sets.OtherDirectory = refl
-set_numbered sets.Header = refl
-set_numbered sets.Bands = refl
-set_numbered sets.Lines = refl
-set_numbered sets.MissingBand = refl
-set_numbered sets.Finish = refl
-set_numbered sets.BehindEnd = refl
+set_placed : (z : SetFault) → set_number z - 31 ≡ tag_of set_faults z
+set_placed sets.Directory = refl
+set_placed sets.OtherDirectory = refl
+set_placed sets.Header = refl
+set_placed sets.Bands = refl
+set_placed sets.Lines = refl
+set_placed sets.MissingBand = refl
+set_placed sets.Finish = refl
+set_placed sets.BehindEnd = refl
 
-caller_numbered : (z : CallerFault) → caller_number z ≡ tag_of caller_faults z + 41
-caller_numbered callers.NotAccepted = refl
-caller_numbered callers.Band = refl
-caller_numbered callers.Line = refl
-caller_numbered callers.Sheet = refl
-caller_numbered callers.Buffer = refl
-caller_numbered callers.Unreadable = refl
+caller_placed : (z : CallerFault) → caller_number z - 41 ≡ tag_of caller_faults z
+caller_placed callers.NotAccepted = refl
+caller_placed callers.Band = refl
+caller_placed callers.Line = refl
+caller_placed callers.Sheet = refl
+caller_placed callers.Buffer = refl
+caller_placed callers.Unreadable = refl
+
+sensor_placed : (z : Sensor) → (sensor_letter z - 77) / 5 ≡ tag_of sensors z
+sensor_placed Mss = refl
+sensor_placed Rbv = refl
+
+correction_placed : (z : Correction) → (80 - correction_letter z) / 15 ≡ tag_of corrections z
+correction_placed Corrected = refl
+correction_placed Uncorrected = refl
 
 never : {P : Type 0} → (P → ⊥) → Decides false P
 never n = (λ t. absurd (true≢false (sym t)), λ p. absurd (n p))
@@ -95,15 +100,10 @@ abbrev Said : Cause → ℕ × ℕ
 Said c = (number c, layer c)
 
 cause_decides : (x y : Cause) → Decides ((causes_eq.ghosts).eq x y) (◌≡◌ {A = ℕ × ℕ} (Said x) (Said y))
-cause_decides (Deck x) (Deck y) = by_equal (bare deck_faults deck_number 11 deck_numbered x y) (λ e. ap (λ n. (n, 1)) e) (λ e. ap (λ p. p.0) e)
-cause_decides (Deck x) (Record y) = never (λ e. let z : ◌≡◌ {A = ℕ} 1 2 = ap (λ p. p.1) e in omega arith)
-cause_decides (Deck x) (Set y) = never (λ e. let z : ◌≡◌ {A = ℕ} 1 3 = ap (λ p. p.1) e in omega arith)
-cause_decides (Record x) (Deck y) = never (λ e. let z : ◌≡◌ {A = ℕ} 2 1 = ap (λ p. p.1) e in omega arith)
-cause_decides (Record x) (Record y) = by_equal (bare record_faults record_number 21 record_numbered x y) (λ e. ap (λ n. (n, 2)) e) (λ e. ap (λ p. p.0) e)
-cause_decides (Record x) (Set y) = never (λ e. let z : ◌≡◌ {A = ℕ} 2 3 = ap (λ p. p.1) e in omega arith)
-cause_decides (Set x) (Deck y) = never (λ e. let z : ◌≡◌ {A = ℕ} 3 1 = ap (λ p. p.1) e in omega arith)
-cause_decides (Set x) (Record y) = never (λ e. let z : ◌≡◌ {A = ℕ} 3 2 = ap (λ p. p.1) e in omega arith)
-cause_decides (Set x) (Set y) = by_equal (bare set_faults set_number 31 set_numbered x y) (λ e. ap (λ n. (n, 3)) e) (λ e. ap (λ p. p.0) e)
+cause_decides (Deck x) (Deck y) = by_equal (by_number deck_faults tt deck_number (λ n. n - 11) deck_placed x y) (λ e. ap (λ n. (n, 1)) e) (λ e. ap (λ p. p.0) e)
+cause_decides (Record x) (Record y) = by_equal (by_number record_faults tt record_number (λ n. n - 21) record_placed x y) (λ e. ap (λ n. (n, 2)) e) (λ e. ap (λ p. p.0) e)
+cause_decides (Set x) (Set y) = by_equal (by_number set_faults tt set_number (λ n. n - 31) set_placed x y) (λ e. ap (λ n. (n, 3)) e) (λ e. ap (λ p. p.0) e)
+cause_decides x y = never (λ e. let l = ap (λ p. p.1) e in let z : ◌≡◌ {A = ℕ} 0 1 = cc in omega (arith, z))
 
 both_and : (a b : Bool) {P Q : Type 0} → Decides a P → Decides b Q → Decides (a && b) (P × Q)
 both_and a b p q = both a b p q (λ x y. (x, y)) (λ w. w.0) (λ w. w.1)
@@ -128,29 +128,7 @@ refusal_decides : (x y : Refusal) → Decides ((refusals_eq.ghosts).eq x y) (tol
 refusal_decides (Tape x) (Tape y) = fault_decides x y
 refusal_decides (Tape x) (Caller y) = never (λ e. layer_some x.cause (ap (λ (w : Fault). w.1) e))
 refusal_decides (Caller x) (Tape y) = never (λ e. layer_some y.cause (sym (ap (λ (w : Fault). w.1) e)))
-refusal_decides (Caller x) (Caller y) = by_equal (bare caller_faults caller_number 41 caller_numbered x y) (λ e. ap (λ n. (n, 0, 0, 0)) e) (λ e. ap (λ (w : Fault). w.0) e)
-
-sensor_lettered : (z : Sensor) → sensor_letter z ≡ 5 * tag_of sensors z + 77
-sensor_lettered Mss = refl
-sensor_lettered Rbv = refl
-
-correction_lettered : (z : Correction) → correction_letter z + 15 * tag_of corrections z ≡ 80
-correction_lettered Corrected = refl
-correction_lettered Uncorrected = refl
-
-sensor_decides : (x y : Sensor) → Decides ((sensors_eq.ghosts).eq x y) (sensor_letter x ≡ sensor_letter y)
-sensor_decides x y =
-    let d = Decides-eqb (tag_of sensors x) (tag_of sensors y) in
-    let a = sensor_lettered x in
-    let b = sensor_lettered y in
-    (λ t. let h = d.0 t in omega (arith, a, b, h), λ h. d.1 (omega (arith, a, b, h)))
-
-correction_decides : (x y : Correction) → Decides ((corrections_eq.ghosts).eq x y) (correction_letter x ≡ correction_letter y)
-correction_decides x y =
-    let d = Decides-eqb (tag_of corrections x) (tag_of corrections y) in
-    let a = correction_lettered x in
-    let b = correction_lettered y in
-    (λ t. let h = d.0 t in omega (arith, a, b, h), λ h. d.1 (omega (arith, a, b, h)))
+refusal_decides (Caller x) (Caller y) = by_equal (by_number caller_faults tt caller_number (λ n. n - 41) caller_placed x y) (λ e. ap (λ n. (n, 0, 0, 0)) e) (λ e. ap (λ (w : Fault). w.0) e)
 
 five : (a b c d e a' b' c' d' e' : ℕ) → (a ≡ a') × ((b ≡ b') × ((c ≡ c') × ((d ≡ d') × (e ≡ e')))) → summary a b c d e ≡ summary a' b' c' d' e'
 five a b c d e a' b' c' d' e' h = let p = h.0 in let q = h.1.0 in let r = h.1.1.0 in let s = h.1.1.1.0 in let t = h.1.1.1.1 in cc
@@ -161,9 +139,9 @@ of_five a b c d e a' b' c' d' e' h = (cc, (cc, (cc, (cc, cc))))
 outline_decides : (x y : Outline) → Decides ((outlines_eq.ghosts).eq x y) (outlined x ≡ outlined y)
 outline_decides x y =
     by_equal
-    (both_and (sameb sensors x.sensor y.sensor) (x.mission == y.mission && (sameb corrections x.correction y.correction && (x.bands == y.bands && x.lines == y.lines))) (sensor_decides x.sensor y.sensor)
+    (both_and (sameb sensors x.sensor y.sensor) (x.mission == y.mission && (sameb corrections x.correction y.correction && (x.bands == y.bands && x.lines == y.lines))) (by_number sensors tt sensor_letter (λ n. (n - 77) / 5) sensor_placed x.sensor y.sensor)
     (both_and (x.mission == y.mission) (sameb corrections x.correction y.correction && (x.bands == y.bands && x.lines == y.lines)) (Decides-eqb x.mission y.mission)
-    (both_and (sameb corrections x.correction y.correction) (x.bands == y.bands && x.lines == y.lines) (correction_decides x.correction y.correction)
+    (both_and (sameb corrections x.correction y.correction) (x.bands == y.bands && x.lines == y.lines) (by_number corrections tt correction_letter (λ n. (80 - n) / 15) correction_placed x.correction y.correction)
     (both_and (x.bands == y.bands) (x.lines == y.lines) (Decides-eqb x.bands y.bands) (Decides-eqb x.lines y.lines)))))
     (five (sensor_letter x.sensor) x.mission (correction_letter x.correction) x.bands x.lines (sensor_letter y.sensor) y.mission (correction_letter y.correction) y.bands y.lines)
     (of_five (sensor_letter x.sensor) x.mission (correction_letter x.correction) x.bands x.lines (sensor_letter y.sensor) y.mission (correction_letter y.correction) y.bands y.lines)
@@ -184,31 +162,23 @@ same_refused a b e = cc
 abbrev Tells : Result Answer Refusal → Result Answer Refusal → Type 0
 Tells x y = told_answer x ≡ told_answer y
 
+given_decides : (x y : Answer) → Decides (same_answer (Ok x) (Ok y)) (Tells (Ok x) (Ok y))
+given_decides (answers.Outline x) (answers.Outline y) = outline_decides x y
+given_decides (answers.Code m) (answers.Code n) = by_equal (Decides-eqb m n) (λ e. ap code e) (same_code m n)
+given_decides (answers.Delivered m) (answers.Delivered n) = by_equal (Decides-eqb m n) (λ e. ap delivered e) (same_delivered m n)
+given_decides (answers.Tally m) (answers.Tally n) = by_equal (Decides-eqb m n) (λ e. ap counted e) (same_counted m n)
+given_decides x y = never (λ e. let z : ◌≡◌ {A = ℕ} 0 1 = cc in omega (arith, z))
+
+not_refused : (x : Answer) (r : Refusal) → Tells (Ok x) (Err r) → ⊥
+not_refused (answers.Outline x) r e = let z : ◌≡◌ {A = ℕ} 0 1 = cc in omega (arith, z)
+not_refused (answers.Code n) r e = let z : ◌≡◌ {A = ℕ} 0 1 = cc in omega (arith, z)
+not_refused (answers.Delivered n) r e = let z : ◌≡◌ {A = ℕ} 0 1 = cc in omega (arith, z)
+not_refused (answers.Tally n) r e = let z : ◌≡◌ {A = ℕ} 0 1 = cc in omega (arith, z)
+
 answer_decides : (x y : Result Answer Refusal) → Decides (same_answer x y) (Tells x y)
-answer_decides (Ok (answers.Outline x)) (Ok (answers.Outline y)) = outline_decides x y
-answer_decides (Ok (answers.Outline x)) (Ok (answers.Code n)) = never (λ e. let z : ◌≡◌ {A = ℕ} 0 1 = cc in omega (arith, z))
-answer_decides (Ok (answers.Outline x)) (Ok (answers.Delivered n)) = never (λ e. let z : ◌≡◌ {A = ℕ} 0 1 = cc in omega (arith, z))
-answer_decides (Ok (answers.Outline x)) (Ok (answers.Tally n)) = never (λ e. let z : ◌≡◌ {A = ℕ} 0 1 = cc in omega (arith, z))
-answer_decides (Ok (answers.Outline x)) (Err r) = never (λ e. let z : ◌≡◌ {A = ℕ} 0 1 = cc in omega (arith, z))
-answer_decides (Ok (answers.Code m)) (Ok (answers.Outline y)) = never (λ e. let z : ◌≡◌ {A = ℕ} 0 1 = cc in omega (arith, z))
-answer_decides (Ok (answers.Code m)) (Ok (answers.Code n)) = by_equal (Decides-eqb m n) (λ e. ap code e) (same_code m n)
-answer_decides (Ok (answers.Code m)) (Ok (answers.Delivered n)) = never (λ e. let z : ◌≡◌ {A = ℕ} 0 1 = cc in omega (arith, z))
-answer_decides (Ok (answers.Code m)) (Ok (answers.Tally n)) = never (λ e. let z : ◌≡◌ {A = ℕ} 0 1 = cc in omega (arith, z))
-answer_decides (Ok (answers.Code m)) (Err r) = never (λ e. let z : ◌≡◌ {A = ℕ} 0 1 = cc in omega (arith, z))
-answer_decides (Ok (answers.Delivered m)) (Ok (answers.Outline y)) = never (λ e. let z : ◌≡◌ {A = ℕ} 0 1 = cc in omega (arith, z))
-answer_decides (Ok (answers.Delivered m)) (Ok (answers.Code n)) = never (λ e. let z : ◌≡◌ {A = ℕ} 0 1 = cc in omega (arith, z))
-answer_decides (Ok (answers.Delivered m)) (Ok (answers.Delivered n)) = by_equal (Decides-eqb m n) (λ e. ap delivered e) (same_delivered m n)
-answer_decides (Ok (answers.Delivered m)) (Ok (answers.Tally n)) = never (λ e. let z : ◌≡◌ {A = ℕ} 0 1 = cc in omega (arith, z))
-answer_decides (Ok (answers.Delivered m)) (Err r) = never (λ e. let z : ◌≡◌ {A = ℕ} 0 1 = cc in omega (arith, z))
-answer_decides (Ok (answers.Tally m)) (Ok (answers.Outline y)) = never (λ e. let z : ◌≡◌ {A = ℕ} 0 1 = cc in omega (arith, z))
-answer_decides (Ok (answers.Tally m)) (Ok (answers.Code n)) = never (λ e. let z : ◌≡◌ {A = ℕ} 0 1 = cc in omega (arith, z))
-answer_decides (Ok (answers.Tally m)) (Ok (answers.Delivered n)) = never (λ e. let z : ◌≡◌ {A = ℕ} 0 1 = cc in omega (arith, z))
-answer_decides (Ok (answers.Tally m)) (Ok (answers.Tally n)) = by_equal (Decides-eqb m n) (λ e. ap counted e) (same_counted m n)
-answer_decides (Ok (answers.Tally m)) (Err r) = never (λ e. let z : ◌≡◌ {A = ℕ} 0 1 = cc in omega (arith, z))
-answer_decides (Err r) (Ok (answers.Outline y)) = never (λ e. let z : ◌≡◌ {A = ℕ} 0 1 = cc in omega (arith, z))
-answer_decides (Err r) (Ok (answers.Code n)) = never (λ e. let z : ◌≡◌ {A = ℕ} 0 1 = cc in omega (arith, z))
-answer_decides (Err r) (Ok (answers.Delivered n)) = never (λ e. let z : ◌≡◌ {A = ℕ} 0 1 = cc in omega (arith, z))
-answer_decides (Err r) (Ok (answers.Tally n)) = never (λ e. let z : ◌≡◌ {A = ℕ} 0 1 = cc in omega (arith, z))
+answer_decides (Ok x) (Ok y) = given_decides x y
+answer_decides (Ok x) (Err r) = never (not_refused x r)
+answer_decides (Err r) (Ok x) = never (λ e. not_refused x r (sym e))
 answer_decides (Err r) (Err s) = by_equal (refusal_decides r s) (λ e. ap refused e) (same_refused (told_refusal r) (told_refusal s))
 
 pub answered_decides : (x y : Answered) → Decides (same_answered x y) (answered x ≡ answered y)
