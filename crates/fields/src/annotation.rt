@@ -1,5 +1,5 @@
 // Annotation records.
-ghost use Rattle.std.specs.Prelude.{◌≡◌, ◌+◌, ◌≤◌, true, false, Some, MatchResult};
+ghost use Rattle.std.specs.Prelude.{◌≡◌, ◌+◌, ◌≤◌, Some, is_ok, IfOk, IfErr};
 ghost use Rattle.fields.specs.Annotations.{is_annotation, field, exposure_date, centre, path_and_row, nominal_centre, frame, processing_by, letter, processing};
 ghost use Rattle.fields.specs.Faults.{told, told_part};
 
@@ -68,7 +68,9 @@ impl<'a> Annotation<'a> {
 
     // The record, where it is an annotation record.
     fn checked(&self) -> Result<&'a [u8], FieldFault>
-        ensures { MatchResult result (λ r. (is_annotation self.now.«record».now ≡ true) × (r.now ≡ self.now.«record».now)) (λ e. (is_annotation self.now.«record».now ≡ false) × (e ≡ FieldFault.Record)) }
+        ensures decides { is_ok result ≡ is_annotation self.now.«record».now }
+        ensures lends { IfOk result (λ r. r.now ≡ self.now.«record».now) }
+        ensures refuses { IfErr result (λ e. e ≡ FieldFault.Record) }
     {
         is_annotation(self.record)
             .then_some(self.record)
