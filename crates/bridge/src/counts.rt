@@ -3,14 +3,12 @@ ghost use Rattle.std.specs.Prelude.{◌≡◌, ◌≤◌, ◌⊎◌, length};
 ghost use Rattle.deck.specs.Answers.{filled};
 ghost use Rattle.deck.specs.Tape.{look};
 ghost use Rattle.reader.specs.Bodies.{line_answer, buffer_after};
-ghost use Rattle.bridge.specs.Counts.{after_surveys, one_if, delivered_of, after_lines, one_if_record, counting, lines_of, blocks_of, blocks_through, lines_in, blocks_in};
+ghost use Rattle.bridge.specs.Counts.{after_surveys, one_if, delivered_of, after_lines, one_if_record, counting, lines_of, blocks_of, lines_in, blocks_in};
 
-use super::copied::copied;
+use super::stored::{opened, piled};
 use deck::{Deck, Kind};
-use image::{Indexed, Strip};
 use reader::Reader;
 use std::alloc::Global;
-use turner::Turner;
 
 // What is answered where memory does not suffice.
 pub const NO_MEMORY: u64 = u64::MAX;
@@ -102,22 +100,6 @@ fn blocks_of<D: Deck + Drop>(deck: D, blocks: &[WantedBlock], buffer: &mut [u8])
     count
 }
 
-// The same through turners piled on a deck: none, one, or for any other number two.
-fn blocks_through<D: Deck + Drop>(
-    turners: u8,
-    deck: D,
-    blocks: &[WantedBlock],
-    buffer: &mut [u8],
-) -> u64
-    ensures { counting result buffer.new ≡ blocks_through turners blocks.now buffer.old (D.meaning deck) }
-{
-    match turners {
-        0 => blocks_of(deck, blocks, buffer),
-        1 => blocks_of(Turner::new(deck), blocks, buffer),
-        _ => blocks_of(Turner::new(Turner::new(deck)), blocks, buffer),
-    }
-}
-
 // Opens an image, surveys it so many times, and reads lines from it into one buffer. Answers how many were delivered.
 #[unsafe(no_mangle)]
 pub extern "C" fn gehunlo_lines(
@@ -130,18 +112,12 @@ pub extern "C" fn gehunlo_lines(
 ) -> u64
     ensures { ((result ≡ 18446744073709551615) × (buffer.new ≡ buffer.old)) ⊎ (counting result buffer.new ≡ lines_in form image.now surveys lines.now buffer.old) }
 {
-    let Ok(bytes) = copied(heap, image) else {
+    let Ok(bytes) = Vec::from_slice(heap, image) else {
         return NO_MEMORY;
     };
-    match form {
-        0 => match Strip::open(bytes) {
-            Ok(deck) => lines_of(deck, surveys, lines, buffer),
-            Err(_) => 0,
-        },
-        _ => match Indexed::open(bytes) {
-            Ok(deck) => lines_of(deck, surveys, lines, buffer),
-            Err(_) => 0,
-        },
+    match opened(form, bytes) {
+        Ok(deck) => lines_of(deck, surveys, lines, buffer),
+        Err(_) => 0,
     }
 }
 
@@ -157,17 +133,11 @@ pub extern "C" fn gehunlo_blocks(
 ) -> u64
     ensures { ((result ≡ 18446744073709551615) × (buffer.new ≡ buffer.old)) ⊎ (counting result buffer.new ≡ blocks_in form turners image.now blocks.now buffer.old) }
 {
-    let Ok(bytes) = copied(heap, image) else {
+    let Ok(bytes) = Vec::from_slice(heap, image) else {
         return NO_MEMORY;
     };
-    match form {
-        0 => match Strip::open(bytes) {
-            Ok(deck) => blocks_through(turners, deck, blocks, buffer),
-            Err(_) => 0,
-        },
-        _ => match Indexed::open(bytes) {
-            Ok(deck) => blocks_through(turners, deck, blocks, buffer),
-            Err(_) => 0,
-        },
+    match opened(form, bytes) {
+        Ok(deck) => blocks_of(piled(turners, deck), blocks, buffer),
+        Err(_) => 0,
     }
 }
