@@ -1,5 +1,5 @@
 // Lines and blocks of an image that are read only to be counted: for measurement.
-ghost use Rattle.std.specs.Prelude.{◌≡◌, ◌≤◌, ◌⊎◌, length};
+ghost use Rattle.std.specs.Prelude.{◌≡◌, ◌⊎◌, cond, length};
 ghost use Rattle.deck.specs.Answers.{filled};
 ghost use Rattle.deck.specs.Tape.{look};
 ghost use Rattle.reader.specs.Bodies.{line_answer, buffer_after};
@@ -41,17 +41,14 @@ fn surveyed<D: Deck>(deck: D, surveys: u32) -> Reader<D>
     reader
 }
 
-// 1 for a line that the reader delivers, else 0.
-fn delivers<D: Deck>(reader: &mut Reader<D>, wanted: &WantedLine, buffer: &mut [u8]) -> u64
+// Whether the reader delivers a line.
+fn delivers<D: Deck>(reader: &mut Reader<D>, wanted: &WantedLine, buffer: &mut [u8]) -> bool
     ensures stays { D.meaning reader.new.deck ≡ D.meaning reader.old.deck }
     ensures remembers { reader.new.accepted ≡ reader.old.accepted }
-    ensures value { result ≡ one_if (line_answer (D.meaning reader.old.deck) reader.old.accepted wanted.now.band wanted.now.line (length buffer.old)) }
+    ensures value { cond result 1 0 ≡ one_if (line_answer (D.meaning reader.old.deck) reader.old.accepted wanted.now.band wanted.now.line (length buffer.old)) }
     ensures writes { buffer.new ≡ buffer_after (line_answer (D.meaning reader.old.deck) reader.old.accepted wanted.now.band wanted.now.line (length buffer.old)) buffer.old }
 {
-    match reader.line(wanted.band, wanted.line, buffer) {
-        Ok(_) => 1,
-        Err(_) => 0,
-    }
+    reader.line(wanted.band, wanted.line, buffer).is_ok()
 }
 
 // How many of the lines the reader delivers.
@@ -61,7 +58,7 @@ fn delivered<D: Deck>(reader: &mut Reader<D>, lines: &[WantedLine], buffer: &mut
 {
     let mut count = 0;
     for wanted in lines {
-        count += delivers(reader, wanted, buffer);
+        count += u64::from(delivers(reader, wanted, buffer));
     }
     count
 }
@@ -74,17 +71,15 @@ fn lines_of<D: Deck + Drop>(deck: D, surveys: u32, lines: &[WantedLine], buffer:
     delivered(&mut reader, lines, buffer)
 }
 
-// 1 for a block that is a record, else 0. It is fetched; a record that does not fit the buffer is one too.
-fn is_record<D: Deck>(deck: &mut D, wanted: &WantedBlock, buffer: &mut [u8]) -> u64
+// Whether a block is a record. It is fetched; a record that does not fit the buffer is one too.
+fn is_record<D: Deck>(deck: &mut D, wanted: &WantedBlock, buffer: &mut [u8]) -> bool
     ensures stays { D.meaning deck.new ≡ D.meaning deck.old }
-    ensures value { result ≡ one_if_record (look (D.meaning deck.old) wanted.now.reel wanted.now.block) }
-    ensures few { result ≤ 1 }
+    ensures value { cond result 1 0 ≡ one_if_record (look (D.meaning deck.old) wanted.now.reel wanted.now.block) }
     ensures writes { buffer.new ≡ filled (look (D.meaning deck.old) wanted.now.reel wanted.now.block) buffer.old }
 {
     match deck.fetch(wanted.reel, wanted.block, buffer) {
-        Ok(Kind::Record(_)) => 1,
-        Ok(_) => 0,
-        Err(_) => 1,
+        Ok(Kind::Record(_)) | Err(_) => true,
+        Ok(_) => false,
     }
 }
 
@@ -95,7 +90,7 @@ fn blocks_of<D: Deck + Drop>(deck: D, blocks: &[WantedBlock], buffer: &mut [u8])
     let mut deck = deck;
     let mut count = 0;
     for wanted in blocks {
-        count += is_record(&mut deck, wanted, buffer);
+        count += u64::from(is_record(&mut deck, wanted, buffer));
     }
     count
 }

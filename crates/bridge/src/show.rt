@@ -69,15 +69,13 @@ fn asked_of<D: Deck + Drop>(heap: Global, deck: D, fetches: &[Fetch]) -> Result<
     ensures { IfOk result (λ t. sending t ≡ sent_of (D.meaning deck) fetches.now) }
 {
     let mut deck = deck;
-    let mut words = Vec::new(heap);
-    let mut buffers = Vec::new(heap);
-    words.push(deck.reels() as u64)?;
+    let mut told = Told::new(heap);
+    told.add(&[deck.reels() as u64], &[])?;
     for fetch in fetches {
         let seen = look_at(heap, &mut deck, fetch)?;
-        words.extend_from_slice(&seen.words)?;
-        buffers.extend_from_slice(seen.buffer.as_slice())?;
+        told.add(&seen.words, seen.buffer.as_slice())?;
     }
-    Ok(Told { words, buffers })
+    Ok(told)
 }
 
 // Opens an image and asks it for blocks through turners.
