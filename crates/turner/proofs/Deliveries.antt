@@ -20,9 +20,8 @@ use Rattle.turner.specs.declared.source.Origin.TheVariants.{Below}
 use Rattle.turner.specs.declared.source.Source.{Source}
 
 -- A place that bears no record of the length.
-pub not_borne : (set : TapeSet) (size : ℕ) (p : Option Spot) (s : Spot) → p ≡ Some s → body_at set p size ≡ Err 46 → borne_at set size p ≡ None
-not_borne set size None s e b = refl
-not_borne set size (Some t) s e b = ap (λ d. cond (bears d) (Some (place_of t.reel t.block)) None) b
+pub not_borne : (set : TapeSet) (size : ℕ) (s : Spot) → body_at set (Some s) size ≡ Err 46 → borne_at set size s ≡ None
+not_borne set size s b = ap (λ d. cond (bears d) (Some (place_of s.reel s.block)) None) b
 
 -- A record that a buffer takes.
 module _ (rec buffer : List ℕ) (size : ℕ) (long : length rec ≡ size) (room : size ≤ length buffer) where
@@ -109,11 +108,10 @@ place_if : (set : TapeSet) (size : ℕ) (s : Spot) (at : Place) (b : Bool) → c
 place_if set size s at true e = let is : place_of s.reel s.block ≡ at = cc in ap (λ p. body_of size (look set p.reel p.block)) is
 place_if set size s at false e = let z : ◌≡◌ {A = ℕ} 0 1 = cc in absurd (omega arith)
 
-pub place_found : (set : TapeSet) (size : ℕ) (p : Option Spot) (at : Place) → borne_at set size p ≡ Some at → body_at set p size ≡ body_of size (look set at.reel at.block)
-place_found set size None at e = let z : ◌≡◌ {A = ℕ} 0 1 = cc in absurd (omega arith)
-place_found set size (Some s) at e = place_if set size s at (bears (body_at set (Some s) size)) e
+place_found : (set : TapeSet) (size : ℕ) (s : Spot) (at : Place) → borne_at set size s ≡ Some at → body_at set (Some s) size ≡ body_of size (look set at.reel at.block)
+place_found set size s at e = place_if set size s at (bears (body_at set (Some s) size)) e
 
-pub source_found : (set now : TapeSet) (source : Option Source) (s : Source) (p : Option Spot) (at : Place) → source ≡ Some s → s.origin ≡ Below p → now ≡ set → borne_at set s.size p ≡ Some at → record_block (λ body. body) s.kind s.number (readable (body_of s.size (look now at.reel at.block))) ≡ source_block (λ body. body) set source
+pub source_found : (set now : TapeSet) (source : Option Source) (s : Source) (p : Spot) (at : Place) → source ≡ Some s → s.origin ≡ Below p → now ≡ set → borne_at set s.size p ≡ Some at → record_block (λ body. body) s.kind s.number (readable (body_of s.size (look now at.reel at.block))) ≡ source_block (λ body. body) set source
 source_found set now source s p at is from same found =
     ap (λ x. record_block (λ body. body) s.kind s.number (readable (body_of s.size (look x at.reel at.block)))) same
     ∙ sym (ap (λ d. record_block (λ body. body) s.kind s.number (readable d)) (place_found set s.size p at found))

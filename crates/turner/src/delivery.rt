@@ -6,20 +6,18 @@ ghost use Rattle.deck.specs.Words.{word};
 ghost use Rattle.reader.specs.Bodies.{body_of};
 ghost use Rattle.turner.specs.Shown.{bears, readable, borne_at, record_block, source_block, piece_block, Sized, shown_kind};
 
-use super::change::change;
 use super::piece::Piece;
 use super::shape::Turning;
-use super::source::{Origin, Source, source_of};
+use super::source::{Origin, Source};
 use deck::{Deck, Kind, Short};
 use machine::Place;
 use reader::Spot;
 
 // Where a record of some length stands, if the place below bears one.
-fn borne<D: Deck>(deck: &mut D, spot: Option<Spot>, size: usize) -> Option<Place>
+fn borne<D: Deck>(deck: &mut D, spot: Spot, size: usize) -> Option<Place>
     ensures stays { D.meaning deck.new ≡ D.meaning deck.old }
     ensures value { result ≡ borne_at (D.meaning deck.old) size spot }
 {
-    let spot = spot?;
     let Ok(block) = u32::try_from(spot.block) else {
         return None;
     };
@@ -47,6 +45,7 @@ pub(crate) fn kind_from<D: Deck>(deck: &mut D, source: Option<Source>) -> Kind
             Some(_) => Kind::Record(source.size),
             None => Kind::Bad,
         },
+        Origin::Nowhere => Kind::Bad,
     }
 }
 
@@ -55,11 +54,7 @@ fn identify(buffer: &mut [u8], number: u32, kind: u8)
     requires { 6 ≤ length buffer.old }
     ensures { buffer.new ≡ word number ++ 0 ∷ kind ∷ drop 6 buffer.old }
 {
-    let [a, b, c, d] = number.to_be_bytes();
-    buffer[0] = a;
-    buffer[1] = b;
-    buffer[2] = c;
-    buffer[3] = d;
+    buffer[..4].copy_from_slice(&number.to_be_bytes());
     buffer[4] = 0;
     buffer[5] = kind;
 }
@@ -68,8 +63,8 @@ fn identify(buffer: &mut [u8], number: u32, kind: u8)
 fn blank(body: &mut [u8])
     ensures { body.new ≡ replicate (length body.old) 0 }
 {
-    for i in 0..body.len() {
-        body[i] = 0;
+    for byte in body.iter_mut() {
+        *byte = 0;
     }
 }
 
@@ -129,25 +124,28 @@ fn fetch_from<D: Deck>(
             Some(at) => copied_record(deck, at, source, buffer),
             None => Ok(Kind::Bad),
         },
+        Origin::Nowhere => Ok(Kind::Bad),
     }
 }
 
-// Puts the record of a piece at the front of the buffer, where the buffer takes it, and changes its body.
-pub(crate) fn deliver<D: Deck>(
-    deck: &mut D,
-    turning: &Turning,
-    piece: Piece,
-    buffer: &mut [u8],
-) -> Result<Kind, Short>
-    ensures stays { D.meaning deck.new ≡ D.meaning deck.old }
-    ensures value { result ≡ fetched (Some (piece_block turning.now (D.meaning deck.old) piece)) (length buffer.old) }
-    ensures bytes { buffer.new ≡ filled (Some (piece_block turning.now (D.meaning deck.old) piece)) buffer.old }
-{
-    match fetch_from(deck, source_of(turning, piece), buffer)? {
-        Kind::Record(size) => {
-            change(turning, piece, &mut buffer[6..size]);
-            Ok(Kind::Record(size))
+impl Turning {
+    // Puts the record of a piece at the front of the buffer, where the buffer takes it, and changes its body.
+    pub(crate) fn deliver<D: Deck>(
+        &self,
+        deck: &mut D,
+        piece: Piece,
+        buffer: &mut [u8],
+    ) -> Result<Kind, Short>
+        ensures stays { D.meaning deck.new ≡ D.meaning deck.old }
+        ensures value { result ≡ fetched (Some (piece_block self.now (D.meaning deck.old) piece)) (length buffer.old) }
+        ensures bytes { buffer.new ≡ filled (Some (piece_block self.now (D.meaning deck.old) piece)) buffer.old }
+    {
+        match fetch_from(deck, self.source_of(piece), buffer)? {
+            Kind::Record(size) => {
+                self.change(piece, &mut buffer[6..size]);
+                Ok(Kind::Record(size))
+            }
+            other => Ok(other),
         }
-        other => Ok(other),
     }
 }

@@ -7,14 +7,14 @@ use Rattle.turner.specs.Changes.{changed}
 use Rattle.turner.specs.Shown.{source_block}
 use Rattle.turner.specs.ChangesLemmas.{length_changed}
 use Rattle.turner.proofs.Deliveries.{taken, changed-value, changed_bytes, untaken}
-use Rattle.turner.proofs.delivery.deliver.Goals as goal
+use Rattle.turner.proofs.shape.Turning.deliver.Goals as goal
 
 pub returns-in-Record : goal.returns-in-Record
 returns-in-Record g c =
     let set = g.D.Deck.meaning c.args.deck.now in
     let buffer = c.args.buffer.now in
-    let f = changed c.args.turning.now c.args.piece in
-    let keeps = length_changed c.args.turning.now c.args.piece in
+    let f = changed c.args.self.now c.args.piece in
+    let keeps = length_changed c.args.self.now c.args.piece in
     let size = c.in-Record.size in
     let source = c.source_of.result in
     let took = taken set source buffer size (sym c.fetch_from.ensures.value ∙ c.in_ok-other.was ∙ ap Ok c.in-Record.is) in
@@ -32,10 +32,10 @@ pub returns-in_default : goal.returns-in_default
 returns-in_default g c =
     let set = g.D.Deck.meaning c.args.deck.now in
     let buffer = c.args.buffer.now in
-    let f = changed c.args.turning.now c.args.piece in
+    let f = changed c.args.self.now c.args.piece in
     let source = c.source_of.result in
     let was = sym c.fetch_from.ensures.value ∙ c.in_ok-other.was in
-    let unchanged = untaken f (length_changed c.args.turning.now c.args.piece) set source buffer (λ size e. c.in_default.not-Record size (other_kind (fetched (Some (source_block (λ body. body) set source)) (length buffer)) c.in_ok-other.other size was e)) in
+    let unchanged = untaken f (length_changed c.args.self.now c.args.piece) set source buffer (λ size e. c.in_default.not-Record size (other_kind (fetched (Some (source_block (λ body. body) set source)) (length buffer)) c.in_ok-other.other size was e)) in
     let same = ap (source_block f set) c.source_of.ensures.is in
     record {
       stays = c.fetch_from.ensures.stays;
