@@ -1,6 +1,6 @@
 // What is written into a directory and a header to tell the order that is shown.
 ghost use Rattle.std.specs.Prelude.{◌≡◌, ◌≤◌, length};
-ghost use Rattle.turner.specs.Changes.{put, order_byte, directory_changed, header_by_line, header_by_band, header_changed, mask_of, digit, changed};
+ghost use Rattle.turner.specs.Changes.{put, order_byte, directory_changed, header_by_line, header_by_band, header_changed, mask_of, changed};
 
 use super::piece::Piece;
 use super::shape::{Order, Turning};
@@ -11,8 +11,10 @@ use records::weight;
 fn put(body: &mut [u8], byte: usize, value: u8)
     ensures { body.new ≡ put body.old byte value }
 {
-    if let Some(place) = body.get_mut(byte.saturating_sub(7)) {
-        *place = value;
+    // by an index, since of a slice that is written through `get_mut` a proof knows no more than the length
+    let index = byte.saturating_sub(7);
+    if index < body.len() {
+        body[index] = value;
     }
 }
 
