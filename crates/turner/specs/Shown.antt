@@ -1,8 +1,9 @@
 -- The set that a turner shows.
-use Rattle.std.specs.Prelude.{ℕ, ◌+◌, ◌-◌, ◌/◌, ◌%◌, ◌≤◌, Bool, true, false, cond, [], ◌∷◌, map, replicate, Some, None, Ok, Err, Option, nat_le}
+use Rattle.std.specs.Prelude.{ℕ, ◌+◌, ◌-◌, ◌/◌, ◌%◌, ◌≤◌, Bool, true, false, cond, [], ◌∷◌, map, replicate, Some, None, Ok, Err, Option, Result, nat_le}
 use Rattle.deck.specs.Tape.{Block, written, mark, bad, Reel, TapeSet}
 use Rattle.deck.specs.declared.Kind.{Kind}
 use Rattle.deck.specs.declared.Kind.TheVariants as kinds
+use Rattle.deck.specs.declared.Short.{Short}
 use Rattle.records.specs.Layouts.{ancillaries, stride}
 use Rattle.machine.specs.Findings.{place_of}
 use Rattle.machine.specs.declared.accepted.Accepted.{Accepted}
@@ -18,6 +19,8 @@ use Rattle.turner.specs.Changes.{code_at, changed}
 use Rattle.turner.specs.Pieces.{pieces}
 use Rattle.turner.specs.Bounds.{first_group}
 use Rattle.turner.specs.Shapes.{layout_of, size, remembered}
+use Rattle.turner.specs.declared.delivery.Found.{Found}
+use Rattle.turner.specs.declared.delivery.Found.TheVariants.{Blank, Borne}
 use Rattle.turner.specs.declared.piece.Piece.{Piece}
 use Rattle.turner.specs.declared.piece.Piece.TheVariants.{Mark, Directory, Header, Attribute, Image, Trailer}
 use Rattle.turner.specs.declared.shape.Order.{Order}
@@ -121,12 +124,26 @@ abbrev pub Sized : Option Source → Type 0
 Sized None = Unit {0}
 Sized (Some s) = (6 ≤ s.size) × (s.size ≤ 5388)
 
--- The kind of block that a source gives.
-abbrev pub origin_kind : TapeSet → ℕ → Origin → Kind
-origin_kind set size Zero = kinds.Record size
-origin_kind set size (Below s) = cond (bears (body_at set (Some s) size)) (kinds.Record size) kinds.Bad
-origin_kind set size Nowhere = kinds.Bad
+-- The record of some length that an origin gives: one of zeros, or one at the place that bears it.
+abbrev pub borne : Option Place → Option Found
+borne None = None
+borne (Some at) = Some (Borne at)
 
-abbrev pub shown_kind : TapeSet → Option Source → Kind
+abbrev pub found : TapeSet → ℕ → Origin → Option Found
+found set size Zero = Some Blank
+found set size (Below s) = borne (borne_at set size s)
+found set size Nowhere = None
+
+-- The kind of block that a source gives.
+abbrev pub found_kind : ℕ → Option Found → Kind ℕ
+found_kind size (Some found) = kinds.Record size
+found_kind size None = kinds.Bad
+
+abbrev pub shown_kind : TapeSet → Option Source → Kind ℕ
 shown_kind set None = kinds.Mark
-shown_kind set (Some s) = origin_kind set s.size s.origin
+shown_kind set (Some s) = found_kind s.size (found set s.size s.origin)
+
+-- What a fetch answers of a block that is there.
+abbrev pub there : Result (Kind ℕ) Short → Result (Option (Kind ℕ)) Short
+there (Ok kind) = Ok (Some kind)
+there (Err e) = Err e

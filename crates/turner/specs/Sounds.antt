@@ -12,7 +12,9 @@ use Rattle.records.specs.Layouts.{attributes, record_length, stride}
 use Rattle.records.specs.declared.layout.Form.{Form}
 use Rattle.records.specs.declared.layout.Form.TheVariants.{Interleaved, Sequential, Vidicon}
 use Rattle.records.specs.declared.layout.Layout.{Layout}
+use Rattle.machine.specs.Findings.{place_of}
 use Rattle.machine.specs.declared.accepted.Accepted.{Accepted}
+use Rattle.machine.specs.declared.machine.Place.{Place}
 use Rattle.survey.specs.Recordings.{Body, Line, record_of}
 use Rattle.reader.specs.Bodies.{Delivery, body_of, body_at}
 use Rattle.reader.specs.Finding.{codes}
@@ -21,7 +23,7 @@ use Rattle.turner.specs.Changes.{changed}
 use Rattle.turner.specs.Pieces.{groups_from, pieces, piece_at, piece_on}
 use Rattle.turner.specs.Bounds.{first_group, small}
 use Rattle.turner.specs.Shapes.{groups, groups_in, images_in, sheets}
-use Rattle.turner.specs.Shown.{source, bears, readable, body_from, record_block, source_block, piece_block, shown_reel, shown, Sized, origin_kind, shown_kind}
+use Rattle.turner.specs.Shown.{source, bears, readable, body_from, record_block, source_block, piece_block, shown_reel, shown, Sized, borne, found, found_kind, shown_kind}
 use Rattle.turner.specs.declared.piece.Piece.{Piece}
 use Rattle.turner.specs.declared.piece.Piece.TheVariants.{Mark, Directory, Header, Attribute, Image, Trailer}
 use Rattle.turner.specs.declared.shape.Order.{Order}
@@ -74,16 +76,16 @@ module _ (f : Body → Body) (keeps : (body : Body) → length (f body) ≡ leng
   record_long : (kind n size : ℕ) (body : Body) → 6 ≤ size → length body ≡ size - 6 → length (record_of n kind (f body)) ≡ size
   record_long kind n size body six long = omega (arith, keeps body, long)
 
-  kind_below : (kind n size : ℕ) (d : Delivery) → 6 ≤ size → ((body : Body) → d ≡ Ok body → length body ≡ size - 6) → cond (bears d) (kinds.Record size) kinds.Bad ≡ kind_of (Some (record_block f kind n (readable d)))
-  kind_below kind n size (Ok body) six long = ap kinds.Record (sym (record_long kind n size body six (long body refl)))
-  kind_below kind n size (Err e) six long = refl
+  kind_below : (kind n size : ℕ) (place : Place) (d : Delivery) → 6 ≤ size → ((body : Body) → d ≡ Ok body → length body ≡ size - 6) → Some (found_kind size (borne (cond (bears d) (Some place) None))) ≡ kind_of (Some (record_block f kind n (readable d)))
+  kind_below kind n size place (Ok body) six long = ap (λ k. Some (kinds.Record k)) (sym (record_long kind n size body six (long body refl)))
+  kind_below kind n size place (Err e) six long = refl
 
-  kind_origin : (set : TapeSet) (kind n size : ℕ) (o : Origin) → 6 ≤ size → origin_kind set size o ≡ kind_of (Some (record_block f kind n (body_from set size o)))
-  kind_origin set kind n size Zero six = ap kinds.Record (sym (record_long kind n size (replicate (size - 6) 0) six (length-replicate {A = ℕ} (size - 6) 0)))
-  kind_origin set kind n size (Below s) six = kind_below kind n size (body_at set (Some s) size) six (whole_at set s size)
+  kind_origin : (set : TapeSet) (kind n size : ℕ) (o : Origin) → 6 ≤ size → Some (found_kind size (found set size o)) ≡ kind_of (Some (record_block f kind n (body_from set size o)))
+  kind_origin set kind n size Zero six = ap (λ k. Some (kinds.Record k)) (sym (record_long kind n size (replicate (size - 6) 0) six (length-replicate {A = ℕ} (size - 6) 0)))
+  kind_origin set kind n size (Below s) six = kind_below kind n size (place_of s.reel s.block) (body_at set (Some s) size) six (whole_at set s size)
   kind_origin set kind n size Nowhere six = refl
 
-  pub kind_shown : (set : TapeSet) (source : Option Source) → Sized source → shown_kind set source ≡ kind_of (Some (source_block f set source))
+  pub kind_shown : (set : TapeSet) (source : Option Source) → Sized source → Some (shown_kind set source) ≡ kind_of (Some (source_block f set source))
   kind_shown set None sized = refl
   kind_shown set (Some s) sized = kind_origin set s.kind s.number s.size s.origin sized.0
 

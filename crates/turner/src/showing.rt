@@ -60,23 +60,21 @@ impl<D: Deck> Deck for Turner<D> {
         }
     }
 
-    fn kind(&mut self, reel: u32, block: u32) -> Kind {
+    fn kind(&mut self, reel: u32, block: u32) -> Option<Kind<usize>> {
         let Some(turning) = self.turning else {
             return self.deck.kind(reel, block);
         };
-        match turning.piece_on(reel, block) {
-            Some(piece) => kind_from(&mut self.deck, turning.source_of(piece)),
-            None => Kind::Absent,
-        }
+        let piece = turning.piece_on(reel, block)?;
+        Some(kind_from(&mut self.deck, turning.source_of(piece)))
     }
 
-    fn fetch(&mut self, reel: u32, block: u32, buffer: &mut [u8]) -> Result<Kind, Short> {
+    fn fetch(&mut self, reel: u32, block: u32, buffer: &mut [u8]) -> Result<Option<Kind<usize>>, Short> {
         let Some(turning) = self.turning else {
             return self.deck.fetch(reel, block, buffer);
         };
-        match turning.piece_on(reel, block) {
-            Some(piece) => turning.deliver(&mut self.deck, piece, buffer),
-            None => Ok(Kind::Absent),
-        }
+        let Some(piece) = turning.piece_on(reel, block) else {
+            return Ok(None);
+        };
+        Ok(Some(turning.deliver(&mut self.deck, piece, buffer)?))
     }
 }
