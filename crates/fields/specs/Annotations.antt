@@ -1,5 +1,5 @@
 -- The fields of an annotation record.
-use Rattle.std.specs.Prelude.{ℕ, Bool, cond, ◌&&◌, ◌||◌, List, length, Ok, Err, Result, ◌==◌}
+use Rattle.std.specs.Prelude.{ℕ, Bool, cond, ◌&&◌, ◌||◌, List, length, Ok, Err, Result, codes, ◌==◌}
 use Rattle.records.specs.Records.{byte}
 use Rattle.fields.specs.Faults.{part_of}
 use Rattle.fields.specs.declared.annotation.Processing.{Processing}
@@ -35,6 +35,12 @@ processing_by letter =
     (cond (letter == 83) (Ok System)
     (cond (letter == 71) (Ok Geometric)
     (cond (letter == 82) (Ok Relative) (Err 47))))
+
+abbrev pub letter : Processing → List ℕ
+letter Uncorrected = codes "U"
+letter System = codes "S"
+letter Geometric = codes "G"
+letter Relative = codes "R"
 
 abbrev pub processing : List ℕ → Result Processing ℕ
 processing xs = cond (is_annotation xs) (processing_by (byte xs 82)) (Err 48)

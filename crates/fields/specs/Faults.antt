@@ -14,8 +14,11 @@ told (Ok x) = Ok x
 told (Err e) = Err (field_number e)
 
 -- A part as the number of its first byte and its bytes.
+abbrev pub lent_part : Part → ℕ × List ℕ
+lent_part p = (p.first, p.bytes.now)
+
 abbrev pub told_part : Result Part FieldFault → Result (ℕ × List ℕ) ℕ
-told_part (Ok p) = Ok (p.first, p.bytes.now)
+told_part (Ok p) = Ok (lent_part p)
 told_part (Err e) = Err (field_number e)
 
 -- So many bytes of a record from the first on.

@@ -1,5 +1,5 @@
 -- The fields of an uncorrected image record of the scanner.
-use Rattle.std.specs.Prelude.{ℕ, ◌+◌, ◌-◌, ◌*◌, Bool, cond, ◌&&◌, List, length, ℤ, pos, negsuc, Ok, Err, Result, ◌==◌, nat_le, nat_lt}
+use Rattle.std.specs.Prelude.{ℕ, ◌+◌, ◌-◌, ◌*◌, Bool, cond, ◌&&◌, List, length, ℤ, pos, negsuc, Ok, Err, Result, codes, ◌==◌, nat_le, nat_lt}
 use Rattle.records.specs.Records.{byte}
 use Rattle.fields.specs.Faults.{part_of}
 use Rattle.fields.specs.declared.image.Quality.{Quality}
@@ -19,6 +19,12 @@ pixel_count xs = cond (is_image xs) (count_by (byte xs 3561) (byte xs 3562)) (Er
 -- Octal 000, 077, 007 and 070.
 abbrev pub quality_by : ℕ → Result Quality ℕ
 quality_by code = cond (code == 0) (Ok Q0) (cond (code == 63) (Ok Q1) (cond (code == 7) (Ok Q2) (cond (code == 56) (Ok Q3) (Err 47))))
+
+abbrev pub quality_text : Quality → List ℕ
+quality_text Q0 = codes "Q0"
+quality_text Q1 = codes "Q1"
+quality_text Q2 = codes "Q2"
+quality_text Q3 = codes "Q3"
 
 abbrev pub quality : List ℕ → Result Quality ℕ
 quality xs = cond (is_image xs) (quality_by (byte xs 3563)) (Err 48)

@@ -1,11 +1,12 @@
 // Annotation records.
-ghost use Rattle.std.specs.Prelude.{◌≡◌, ◌+◌, ◌≤◌};
-ghost use Rattle.fields.specs.Annotations.{is_annotation, field, exposure_date, centre, path_and_row, nominal_centre, frame, processing_by, processing};
+ghost use Rattle.std.specs.Prelude.{◌≡◌, ◌+◌, ◌≤◌, Some, is_ok, IfOk, IfErr};
+ghost use Rattle.fields.specs.Annotations.{is_annotation, field, exposure_date, centre, path_and_row, nominal_centre, frame, processing_by, letter, processing};
 ghost use Rattle.fields.specs.Faults.{told, told_part};
 
 use super::fault::FieldFault;
 use super::part::Part;
 use records::ANNOTATION;
+use std::fmt;
 
 // How a picture was corrected.
 #[derive(Clone, Copy, PartialEq, Eq, Debug)]
@@ -14,6 +15,36 @@ pub enum Processing {
     System,
     Geometric,
     Relative,
+}
+
+// A letter tells it.
+impl TryFrom<char> for Processing {
+    type Error = FieldFault;
+
+    ghost try_from_gives = { λ letter r. told r ≡ processing_by letter };
+
+    fn try_from(letter: char) -> Result<Processing, FieldFault> {
+        match letter {
+            'U' => Ok(Processing::Uncorrected),
+            'S' => Ok(Processing::System),
+            'G' => Ok(Processing::Geometric),
+            'R' => Ok(Processing::Relative),
+            _ => Err(FieldFault::Code),
+        }
+    }
+}
+
+impl fmt::Display for Processing {
+    ghost output = { λ p. Some (letter p) };
+
+    fn fmt<W: fmt::Write>(&self, f: &mut fmt::Formatter<W>) -> fmt::Result {
+        f.write_str(match self {
+            Processing::Uncorrected => "U",
+            Processing::System => "S",
+            Processing::Geometric => "G",
+            Processing::Relative => "R",
+        })
+    }
 }
 
 // An annotation record, or what is taken for one.
@@ -28,18 +59,6 @@ fn is_annotation(record: &[u8]) -> bool
     (record.len() == 3596 || record.len() == 5388) && record[5] == ANNOTATION
 }
 
-fn processing_by(letter: char) -> Result<Processing, FieldFault>
-    ensures { told result ≡ processing_by letter }
-{
-    match letter {
-        'U' => Ok(Processing::Uncorrected),
-        'S' => Ok(Processing::System),
-        'G' => Ok(Processing::Geometric),
-        'R' => Ok(Processing::Relative),
-        _ => Err(FieldFault::Code),
-    }
-}
-
 impl<'a> Annotation<'a> {
     pub fn new(record: &'a [u8]) -> Annotation<'a>
         ensures { result.«record».now ≡ «record».now }
@@ -47,18 +66,23 @@ impl<'a> Annotation<'a> {
         Annotation { record }
     }
 
+    // The record, where it is an annotation record.
+    fn checked(&self) -> Result<&'a [u8], FieldFault>
+        ensures decides { is_ok result ≡ is_annotation self.now.«record».now }
+        ensures lends { IfOk result (λ r. r.now ≡ self.now.«record».now) }
+        ensures refuses { IfErr result (λ e. e ≡ FieldFault.Record) }
+    {
+        is_annotation(self.record)
+            .then_some(self.record)
+            .ok_or(FieldFault::Record)
+    }
+
     // So many bytes from the first on.
     fn field(&self, first: usize, count: usize) -> Result<Part<'a>, FieldFault>
         requires { (1 ≤ first) × (first + count ≤ 3597) }
         ensures { told_part result ≡ field self.now.«record».now first count }
     {
-        if !is_annotation(self.record) {
-            return Err(FieldFault::Record);
-        }
-        Ok(Part {
-            bytes: &self.record[first - 1..first - 1 + count],
-            first,
-        })
+        Ok(Part::of(self.checked()?, first, count))
     }
 
     pub fn exposure_date(&self) -> Result<Part<'a>, FieldFault>
@@ -95,9 +119,6 @@ impl<'a> Annotation<'a> {
     pub fn processing(&self) -> Result<Processing, FieldFault>
         ensures { told result ≡ processing self.now.«record».now }
     {
-        if !is_annotation(self.record) {
-            return Err(FieldFault::Record);
-        }
-        processing_by(self.record[81] as char)
+        Processing::try_from(char::from(self.checked()?[81]))
     }
 }

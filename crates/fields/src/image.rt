@@ -1,11 +1,12 @@
 // Image records of the scanner, uncorrected.
-ghost use Rattle.std.specs.Prelude.{◌≡◌, ◌+◌, ◌≤◌};
+ghost use Rattle.std.specs.Prelude.{◌≡◌, ◌+◌, ◌≤◌, Some, is_ok, IfOk, IfErr};
 ghost use Rattle.fields.specs.Faults.{told, told_part};
-ghost use Rattle.fields.specs.Images.{is_image, count_by, pixel_count, quality_by, quality, signed, signed_by, signed_at, gain, bias, first_pixel, pixels};
+ghost use Rattle.fields.specs.Images.{is_image, count_by, pixel_count, quality_by, quality_text, quality, signed_by, signed_at, gain, bias, first_pixel, pixels};
 
 use super::fault::FieldFault;
 use super::part::Part;
 use records::IMAGE;
+use std::fmt;
 
 // The quality of a line.
 #[derive(Clone, Copy, PartialEq, Eq, Debug)]
@@ -14,6 +15,36 @@ pub enum Quality {
     Q1,
     Q2,
     Q3,
+}
+
+// An octal code tells it.
+impl TryFrom<u8> for Quality {
+    type Error = FieldFault;
+
+    ghost try_from_gives = { λ code r. told r ≡ quality_by code };
+
+    fn try_from(code: u8) -> Result<Quality, FieldFault> {
+        match code {
+            0o000 => Ok(Quality::Q0),
+            0o077 => Ok(Quality::Q1),
+            0o007 => Ok(Quality::Q2),
+            0o070 => Ok(Quality::Q3),
+            _ => Err(FieldFault::Code),
+        }
+    }
+}
+
+impl fmt::Display for Quality {
+    ghost output = { λ q. Some (quality_text q) };
+
+    fn fmt<W: fmt::Write>(&self, f: &mut fmt::Formatter<W>) -> fmt::Result {
+        f.write_str(match self {
+            Quality::Q0 => "Q0",
+            Quality::Q1 => "Q1",
+            Quality::Q2 => "Q2",
+            Quality::Q3 => "Q3",
+        })
+    }
 }
 
 // An image record, or what is taken for one.
@@ -33,32 +64,9 @@ fn count_by(high: u8, low: u8) -> Result<u16, FieldFault>
     ensures { told result ≡ count_by high low }
 {
     if high < 64 && low < 64 {
-        Ok(high as u16 * 64 + low as u16)
+        Ok(u16::from(high) * 64 + u16::from(low))
     } else {
         Err(FieldFault::Code)
-    }
-}
-
-fn quality_by(code: u8) -> Result<Quality, FieldFault>
-    ensures { told result ≡ quality_by code }
-{
-    match code {
-        0o000 => Ok(Quality::Q0),
-        0o077 => Ok(Quality::Q1),
-        0o007 => Ok(Quality::Q2),
-        0o070 => Ok(Quality::Q3),
-        _ => Err(FieldFault::Code),
-    }
-}
-
-// Sixteen bits in two's complement.
-fn signed(bits: u16) -> i16
-    ensures { result ≡ signed bits }
-{
-    if bits < 0x8000 {
-        bits as i16
-    } else {
-        (bits as i32 - 0x10000) as i16
     }
 }
 
@@ -67,7 +75,7 @@ fn signed_by(a: u8, b: u8, c: u8, d: u8) -> Result<i16, FieldFault>
     ensures { told result ≡ signed_by a b c d }
 {
     if a < 16 && b < 16 && c < 16 && d < 16 {
-        Ok(signed(a as u16 * 4096 + b as u16 * 256 + c as u16 * 16 + d as u16))
+        Ok(i16::from_be_bytes([a * 16 + b, c * 16 + d]))
     } else {
         Err(FieldFault::Code)
     }
@@ -94,24 +102,30 @@ impl<'a> ImageRecord<'a> {
         ImageRecord { record }
     }
 
+    // The record, where it is an image record.
+    fn checked(&self) -> Result<&'a [u8], FieldFault>
+        ensures decides { is_ok result ≡ is_image self.now.«record».now }
+        ensures lends { IfOk result (λ r. r.now ≡ self.now.«record».now) }
+        ensures refuses { IfErr result (λ e. e ≡ FieldFault.Record) }
+    {
+        is_image(self.record)
+            .then_some(self.record)
+            .ok_or(FieldFault::Record)
+    }
+
     // How many pixels the line has, by bytes 3561 and 3562.
     pub fn pixel_count(&self) -> Result<u16, FieldFault>
         ensures { told result ≡ pixel_count self.now.«record».now }
     {
-        if !is_image(self.record) {
-            return Err(FieldFault::Record);
-        }
-        count_by(self.record[3560], self.record[3561])
+        let record = self.checked()?;
+        count_by(record[3560], record[3561])
     }
 
     // The line's quality, by byte 3563.
     pub fn quality(&self) -> Result<Quality, FieldFault>
         ensures { told result ≡ quality self.now.«record».now }
     {
-        if !is_image(self.record) {
-            return Err(FieldFault::Record);
-        }
-        quality_by(self.record[3562])
+        Quality::try_from(self.checked()?[3562])
     }
 
     // The signed number whose first byte is that of a number.
@@ -119,10 +133,7 @@ impl<'a> ImageRecord<'a> {
         requires { (1 ≤ first) × (first + 3 ≤ 3596) }
         ensures { told result ≡ signed_at self.now.«record».now first }
     {
-        if !is_image(self.record) {
-            return Err(FieldFault::Record);
-        }
-        let record = self.record;
+        let record = self.checked()?;
         signed_by(
             record[first - 1],
             record[first],
@@ -149,17 +160,12 @@ impl<'a> ImageRecord<'a> {
     pub fn pixels(&self, band: u8) -> Result<Part<'a>, FieldFault>
         ensures { told_part result ≡ pixels self.now.«record».now band }
     {
-        if !is_image(self.record) {
-            return Err(FieldFault::Record);
-        }
+        let record = self.checked()?;
         let first = first_pixel(band)?;
-        let count = count_by(self.record[3560], self.record[3561])? as usize;
+        let count = usize::from(count_by(record[3560], record[3561])?);
         if first + count > 3561 {
             return Err(FieldFault::Code);
         }
-        Ok(Part {
-            bytes: &self.record[first - 1..first - 1 + count],
-            first,
-        })
+        Ok(Part::of(record, first, count))
     }
 }

@@ -1,8 +1,23 @@
 // A part of a record, which is lent.
+ghost use Rattle.std.specs.Prelude.{◌≡◌, ◌+◌, ◌≤◌, length};
+ghost use Rattle.fields.specs.Faults.{part_of, lent_part};
 
 // Its bytes, and the number of the first of them in the record.
 #[derive(Clone, Copy)]
 pub struct Part<'a> {
     pub bytes: &'a [u8],
     pub first: usize,
+}
+
+impl<'a> Part<'a> {
+    // So many bytes of a record from the first on.
+    pub(crate) fn of(record: &'a [u8], first: usize, count: usize) -> Part<'a>
+        requires { (1 ≤ first) × (first + count ≤ length «record».now + 1) }
+        ensures { lent_part result ≡ part_of «record».now first count }
+    {
+        Part {
+            bytes: &record[first - 1..first - 1 + count],
+            first,
+        }
+    }
 }
