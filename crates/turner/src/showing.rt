@@ -68,7 +68,12 @@ impl<D: Deck> Deck for Turner<D> {
         Some(kind_from(&mut self.deck, turning.source_of(piece)))
     }
 
-    fn fetch(&mut self, reel: u32, block: u32, buffer: &mut [u8]) -> Result<Option<Kind<usize>>, Short> {
+    fn fetch(
+        &mut self,
+        reel: u32,
+        block: u32,
+        buffer: &mut [u8],
+    ) -> Result<Option<Kind<usize>>, Short> {
         let Some(turning) = self.turning else {
             return self.deck.fetch(reel, block, buffer);
         };

@@ -11,7 +11,7 @@ pub returns-in-Some-Blank : goal.returns-in-Some-Blank
 returns-in-Some-Blank g c =
     let set = g.D.Deck.meaning c.args.deck.now in
     let buffer = c.args.buffer.now in
-    let same = source_found set c.args.source c.in-Some.source (Some Blank) c.in-Some.is (sym c.find.ensures.value ∙ c.in-Some-Blank.is) in
+    let same = source_found set c.args.source c.in-Some.source (Some Blank) c.in-Some.is (sym c.find.ensures.value ∙ c.in-Some-Blank.is ∙ ap Some c.in-Some-Blank.field-0-is) in
     record {
       stays = c.find.ensures.stays;
       value = c.zero_record.ensures.value ∙ ap (λ b. fetched (Some b) (length buffer)) same;
@@ -25,8 +25,8 @@ returns-in-Some-Borne g c =
     let source = c.in-Some.source in
     let at = c.in-Some-Borne.at in
     let same =
-      ap (λ k. record_block (λ body. body) source.kind source.number (readable (body_of source.size (look k at.reel at.block)))) c.find.ensures.stays
-      ∙ source_found set c.args.source source (Some (Borne at)) c.in-Some.is (sym c.find.ensures.value ∙ c.in-Some-Borne.is) in
+    ap (λ k. record_block (λ body. body) source.kind source.number (readable (body_of source.size (look k at.reel at.block)))) c.find.ensures.stays
+    ∙ source_found set c.args.source source (Some (Borne at)) c.in-Some.is (sym c.find.ensures.value ∙ c.in-Some-Borne.is ∙ ap Some c.in-Some-Borne.field-0-is) in
     record {
       stays = c.copied_record.ensures.stays ∙ c.find.ensures.stays;
       value = c.copied_record.ensures.value ∙ ap (λ b. fetched (Some b) (length buffer)) same;
