@@ -2,7 +2,7 @@
 ghost use Rattle.std.specs.Prelude.{◌≡◌, ◌<◌, length};
 ghost use Rattle.deck.specs.Tape.{look};
 ghost use Rattle.image.specs.Cursor.{Stands};
-ghost use Rattle.image.specs.Found.{found_if};
+ghost use Rattle.image.specs.Found.{found_where};
 ghost use Rattle.image.specs.Opened.{strip_set};
 
 use super::super::cursor::{Cursor, wind};
@@ -29,7 +29,7 @@ impl Strip {
     // Winds to a block, reel and block counted from 1, and answers where it lies, if there is such a block.
     fn wind_to(&mut self, reel: u32, block: u32) -> Option<usize>
         ensures stays { self.new.bytes ≡ self.old.bytes }
-        ensures finds { found_if self.old.bytes.items result ≡ look (strip_set self.old) reel block }
+        ensures finds { found_where self.old.bytes.items result ≡ look (strip_set self.old) reel block }
     {
         let reel = reel.checked_sub(1)? as usize;
         let block = block.checked_sub(1)?;
