@@ -6,8 +6,8 @@ pub returns : goal.returns
 returns c =
     let codes = c.args.bands.now.codes in
     let five : length codes ≡ 5 = search rules in
-    let least : c.min.result - 0 ≡ min c.args.bands.now.count 5 = omega (arith, c.min.ensures) in
+    let least : c.min.result ≡ min c.args.bands.now.count 5 = omega (arith, c.min.ensures) in
     record {
       is = ap (λ k. take k codes) least ∙ take_min c.args.bands.now.count codes five;
-      few = omega (arith, length-take (c.min.result - 0) codes, five);
+      few = omega (arith, length-take c.min.result codes, five);
     }
