@@ -1,5 +1,5 @@
 // Where the lines and sheets of an accepted set stand.
-ghost use Rattle.std.specs.Prelude.{◌≡◌, ◌<◌, ◌≤◌, length, take, IfSome};
+ghost use Rattle.std.specs.Prelude.{◌≡◌, ◌<◌, ◌≤◌, length, take, ok_or, IfSome};
 ghost use Rattle.reader.specs.Finding.{index_of, band_file, image_on, line_spot, sheet_kind, sheet_spot};
 
 use super::refusal::CallerFault;
@@ -63,8 +63,7 @@ pub fn band_file(accepted: &Accepted, code: u8) -> Option<BandFile>
 }
 
 // On which reel image block k of a file stands, and which of that reel's image blocks it is.
-fn image_on(through: &[u32], k: u64) -> Option<Spot>
-    requires { length through.now ≤ 9 }
+fn image_on(through: &[u32; 9], k: u64) -> Option<Spot>
     ensures finds { result ≡ image_on k 0 1 through.now }
     ensures small { IfSome result (λ s. s.block < 4294967296) }
 {
@@ -119,21 +118,26 @@ impl TryFrom<u8> for SheetKind {
 }
 
 // Where a sheet stands, if there is such a sheet.
-pub(crate) fn sheet_spot(group: &Group, layout: Layout, kind: u8, index: u32) -> Option<Spot>
-    ensures { result ≡ sheet_spot group.now layout kind index }
+pub(crate) fn sheet_spot(
+    group: &Group,
+    layout: Layout,
+    kind: u8,
+    index: u32,
+) -> Result<Spot, CallerFault>
+    ensures { result ≡ ok_or (sheet_spot group.now layout kind index) CallerFault.Sheet }
 {
     let header = group.header;
     let ancillaries = layout.ancillaries();
-    let (place, many, behind) = match SheetKind::try_from(kind).ok()? {
+    let (place, many, behind) = match SheetKind::try_from(kind)? {
         SheetKind::Header => (header, 1, 0),
         SheetKind::Ancillary => (header, ancillaries, 1),
         SheetKind::Annotation => (header, layout.annotations(), ancillaries + 1),
         SheetKind::Trailer => (group.trailer, group.trailers, 0),
     };
-    if index < 1 || many < index {
-        return None;
+    if !(1..=many).contains(&index) {
+        return Err(CallerFault::Sheet);
     }
-    Some(Spot {
+    Ok(Spot {
         reel: place.reel,
         block: place.block as u64 + behind as u64 + (index as u64 - 1),
     })
