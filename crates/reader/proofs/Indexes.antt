@@ -1,9 +1,6 @@
 -- The search for a band's code, and for the reel of an image block.
-use Rattle.std.proofs.Common.{◌≡◌, ℕ, zero, suc, ◌+◌, ◌-◌, ◌<◌, ◌≤◌, Bool, true, false, cond, not, min, eqb, ltb, leb, List, [], ◌∷◌, length, get_or, take, Some, None, Option, sym, refl, ap, ◌∙◌, ⊎_elim, arith}
+use Rattle.std.proofs.Common.{◌≡◌, ℕ, zero, suc, ◌+◌, ◌-◌, Bool, true, false, cond, not, eqb, ltb, leb, List, [], ◌∷◌, length, get_or, Some, None, Option, refl, ap, arith}
 use Rattle.std.specs.List.{position, position_or_len}
-use Rattle.std.proofs.lemmas.List.{take_all}
-use Rattle.std.proofs.lemmas.Bool.{cases_lt}
-use Rattle.std.proofs.lemmas.Grind.{common_steps}
 use Rattle.reader.specs.Finding.{index_of, spot, image_on}
 use Rattle.reader.specs.declared.places.Spot.{Spot}
 
@@ -21,14 +18,6 @@ index_from code (x ∷ xs) i = either (eqb x code) (index_from code xs (i + 1))
 
 pub index_is : (code : ℕ) (xs : List ℕ) → position (λ x. eqb x code) xs ≡ index_of code xs 0
 index_is code xs = let again = index_from code xs 0 in grind (arith, again)
-
--- No more than there are.
-pub take_min : (n : ℕ) (xs : List ℕ) → length xs ≡ 5 → take (min n 5) xs ≡ take n xs
-take_min n xs l =
-    ⊎_elim
-    (λ (h : n < 5). let e : min n 5 ≡ n = omega arith in ap (λ k. take k xs) e)
-    (λ (h : 5 ≤ n). let e : min n 5 ≡ 5 = omega arith in ap (λ k. take k xs) e ∙ take_all 5 xs (omega arith) ∙ sym (take_all n xs (omega arith)))
-    (cases_lt n 5)
 
 -- The reel of an image block.
 abbrev image_at : ℕ → ℕ → ℕ → List ℕ → ℕ → Option Spot
