@@ -74,8 +74,7 @@ impl Form {
         ensures { result ≡ sensor_in self }
     {
         match self {
-            Form::Interleaved => Sensor::Mss,
-            Form::Sequential => Sensor::Mss,
+            Form::Interleaved | Form::Sequential => Sensor::Mss,
             Form::Vidicon => Sensor::Rbv,
         }
     }
@@ -85,8 +84,7 @@ impl Form {
         ensures { result ≡ record_length self }
     {
         match self {
-            Form::Interleaved => 3596,
-            Form::Sequential => 3596,
+            Form::Interleaved | Form::Sequential => 3596,
             Form::Vidicon => 5388,
         }
     }
@@ -97,8 +95,7 @@ impl Form {
     {
         match self {
             Form::Interleaved => 255,
-            Form::Sequential => 0,
-            Form::Vidicon => 0,
+            Form::Sequential | Form::Vidicon => 0,
         }
     }
 }

@@ -21,10 +21,7 @@ pub const TRAILER: u8 = 0o366;
 pub(crate) fn byte_at(bytes: &[u8], index: usize) -> u8
     ensures { result ≡ slice_index bytes.now index }
 {
-    match bytes.get(index) {
-        Some(byte) => *byte,
-        None => 0,
-    }
+    bytes.get(index).copied().unwrap_or(0)
 }
 
 // Whether a record begins with its number, in four bytes.

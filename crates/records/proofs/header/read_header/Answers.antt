@@ -1,3 +1,4 @@
+use Rattle.std.proofs.Common.{◌∙◌}
 use Rattle.records.proofs.Headers.{header_counts, header_band, header_trailers, header_bands, header-passes}
 use Rattle.records.proofs.header.read_header.Goals as goal
 
@@ -18,4 +19,4 @@ returns-then-not-bands_fit c =
 
 pub returns : goal.returns
 returns c =
-    header-passes c.args.bytes.now c.args.layout c.args.last _ _ c.byte_at-band.ensures c.byte_at-mask.ensures _ _ c.content_of.ensures c.byte_at.ensures c.if-not-counts_fit.ensures c.if-not-band_fits.ensures c.if-not-trailers_fit.ensures c.if-not-bands_fit.ensures
+    header-passes c.args.bytes.now c.args.layout c.args.last _ _ c.byte_at-band.ensures c.byte_at-mask.ensures _ _ c.content_of.ensures (c.from.ensures ∙ c.byte_at.ensures) c.if-not-counts_fit.ensures c.if-not-band_fits.ensures c.if-not-trailers_fit.ensures c.if-not-bands_fit.ensures
