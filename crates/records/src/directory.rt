@@ -9,7 +9,7 @@ use super::layout::{Correction, Form, Layout};
 // The length of a directory.
 pub const DIRECTORY_LENGTH: usize = 360;
 
-// The form by the sensor's letter and the order's byte.
+// The form by the sensor's letter and the order's byte. It is no `TryFrom`, since two bytes make a form.
 fn form_of(letter: u8, order: u8) -> Option<Form>
     ensures { result ≡ form_of letter order }
 {
@@ -79,15 +79,14 @@ fn blank(bytes: &[u8; DIRECTORY_LENGTH]) -> bool
 fn fixed(bytes: &[u8; DIRECTORY_LENGTH], layout: Layout, reels: u32) -> bool
     ensures { result ≡ fixed bytes.now layout reels }
 {
-    let size = layout.form.record_length();
+    let size = usize::from(u16::from_be_bytes([bytes[31], bytes[32]]));
     bytes[6] == b'L'
         && bytes[9] == b'C'
         && bytes[18] == b'1'
         && u64::from(bytes[19]) == u64::from(b'0') + u64::from(reels)
         && blank(bytes)
         && bytes[29] == 0o355
-        && usize::from(bytes[31]) == size / 256
-        && usize::from(bytes[32]) == size % 256
+        && size == layout.form.record_length()
 }
 
 // The layout that the first directory of a set names, if all its values are in order.
@@ -99,6 +98,7 @@ pub fn first_directory(bytes: &[u8; DIRECTORY_LENGTH], reels: u32) -> Option<Lay
 }
 
 // Whether a directory equals the first one in all but its reel's digit.
+#[tactic(auto, using(crate::proofs::Directories::rest), unfolding(crate::specs::Directories::same_directory))]
 pub fn same_directory(first: &[u8; DIRECTORY_LENGTH], bytes: &[u8; DIRECTORY_LENGTH]) -> bool
     ensures { result ≡ same_directory first.now bytes.now }
 {

@@ -83,6 +83,7 @@ fn content_of(band: u8, mask: u8, form: Form) -> Content
 }
 
 // The values of a header, checked in the order of their bytes.
+#[tactic(auto, unfolding(crate::specs::Headers::header))]
 pub fn read_header(bytes: &[u8], layout: Layout, last: u8) -> Result<Header, SetFault>
     ensures { headed result ≡ header bytes.now layout last }
 {

@@ -65,6 +65,7 @@ impl fmt::Display for Correction {
 #[derive(Clone, Copy, PartialEq, Eq, Debug)]
 pub struct Layout {
     pub form: Form,
+    // 1 to 3 where a directory names it; any number, since callers may make a layout
     pub mission: u8,
     pub correction: Correction,
 }
