@@ -6,12 +6,6 @@ use Rattle.std.specs.List.{AllZip}
 cons : {Y : Type 0} {x y : Y} {xs ys : List Y} → x ≡ y → xs ≡ ys → x ∷ xs ≡ y ∷ ys
 cons p q = cc
 
-head_of : {Y : Type 0} {x y : Y} {xs ys : List Y} → x ∷ xs ≡ y ∷ ys → x ≡ y
-head_of e = cc
-
-tail_of : {Y : Type 0} {x y : Y} {xs ys : List Y} → x ∷ xs ≡ y ∷ ys → xs ≡ ys
-tail_of e = cc
-
 -- Copies mean what the originals mean.
 pub copied : {X Y : Type 0} (f : X → Y) {R : X → X → Type 0} → ((x y : X) → R x y → f y ≡ f x) → (xs ys : List X) → AllZip R xs ys → map f ys ≡ map f xs
 copied f same [] [] e = refl
@@ -27,6 +21,6 @@ both false b p q r one other = (λ t. absurd (true≢false (sym t)), λ h. absur
 -- Where the comparison of elements decides whether they mean the same, so does that of lists.
 pub all_decided : {X Y : Type 0} (f : X → Y) (E : X → X → Bool) → ((x y : X) → Decides (E x y) (f x ≡ f y)) → (xs ys : List X) → Decides (pointwise E xs ys) (map f xs ≡ map f ys)
 all_decided f E d [] [] = (λ _. refl, λ _. refl)
-all_decided f E d [] (y ∷ ys) = (λ t. absurd (true≢false (sym t)), λ e. let z : ◌≡◌ {A = ℕ} 0 1 = cc in absurd (omega arith))
-all_decided f E d (x ∷ xs) [] = (λ t. absurd (true≢false (sym t)), λ e. let z : ◌≡◌ {A = ℕ} 0 1 = cc in absurd (omega arith))
-all_decided f E d (x ∷ xs) (y ∷ ys) = both (E x y) (pointwise E xs ys) (d x y) (all_decided f E d xs ys) cons head_of tail_of
+all_decided f E d [] (y ∷ ys) = (λ t. absurd (true≢false (sym t)), λ e. cc)
+all_decided f E d (x ∷ xs) [] = (λ t. absurd (true≢false (sym t)), λ e. cc)
+all_decided f E d (x ∷ xs) (y ∷ ys) = both (E x y) (pointwise E xs ys) (d x y) (all_decided f E d xs ys) cons (λ e. cc) (λ e. cc)
