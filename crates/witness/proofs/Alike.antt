@@ -1,7 +1,11 @@
 -- Lists of copies, and of answers that are compared one by one.
-use Rattle.std.proofs.Common.{◌≡◌, ℕ, Bool, true, false, ◌&&◌, List, [], ◌∷◌, map, Decides, sym, refl, true≢false, arith}
+use Rattle.std.proofs.Common.{◌≡◌, ℕ, Bool, true, false, ◌&&◌, List, [], ◌∷◌, map, Decides, vec_items, sym, refl, true≢false, arith}
 use Rattle.std.specs.Cmp.Lexicographic.{pointwise}
-use Rattle.std.specs.List.{AllZip}
+use Rattle.std.specs.List.{AllZip, each_same}
+use Rattle.witness.specs.Replies.{asked}
+use Rattle.witness.specs.contracts.calls.AskedClone.TheImpl as clones
+use Rattle.witness.specs.declared.calls.Asked.{Asked}
+use Rattle.witness.proofs.Runs.{pair}
 
 cons : {Y : Type 0} {x y : Y} {xs ys : List Y} → x ≡ y → xs ≡ ys → x ∷ xs ≡ y ∷ ys
 cons p q = cc
@@ -12,6 +16,10 @@ copied f same [] [] e = refl
 copied f same [] (y ∷ ys) e = absurd e
 copied f same (x ∷ xs) [] e = absurd e
 copied f same (x ∷ xs) (y ∷ ys) e = cons (same x y e.0) (copied f same xs ys e.1)
+
+-- Clones of calls ask the same.
+pub cloned : (calls again : List Asked) → AllZip (clones.ghosts).is_clone calls again → map asked again ≡ map asked calls
+cloned calls again e = copied asked (λ x y h. pair h.0 (each_same (vec_items x.buffer) (vec_items y.buffer) h.1.0)) calls again e
 
 pub both : (a b : Bool) {P Q R : Type 0} → Decides a P → Decides b Q → (P → Q → R) → (R → P) → (R → Q) → Decides (a && b) R
 both true true p q r one other = (λ _. r (p.0 refl) (q.0 refl), λ _. refl)
