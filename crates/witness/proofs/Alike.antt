@@ -1,5 +1,5 @@
 -- Lists of copies, and of answers that are compared one by one.
-use Rattle.std.proofs.Common.{◌≡◌, ℕ, Bool, true, false, ◌&&◌, List, [], ◌∷◌, map, Decides, vec_items, sym, refl, true≢false, arith}
+use Rattle.std.proofs.Common.{◌≡◌, Bool, true, false, ◌&&◌, List, [], ◌∷◌, map, Decides, vec_items, sym, refl, true≢false}
 use Rattle.std.specs.Cmp.Lexicographic.{pointwise}
 use Rattle.std.specs.List.{AllZip, each_same}
 use Rattle.witness.specs.Replies.{asked}
