@@ -3,7 +3,7 @@ ghost use Rattle.std.specs.Prelude.{◌≡◌, IfOk, string_bytes};
 ghost use Rattle.fields.specs.Faults.{field_number, told, told_part};
 ghost use Rattle.fieldlist.specs.Values.{refused, letter, part_value, letter_value, count_value, quality_text, quality_value, signed_value};
 
-use super::shown::quoted;
+use super::shown::Quoted;
 use fields::{FieldFault, Part, Processing, Quality};
 use std::alloc::{AllocError, Global};
 
@@ -23,7 +23,7 @@ pub(crate) fn part_value(
     ensures { IfOk result (λ t. string_bytes t ≡ part_value (told_part field.entry)) }
 {
     match field {
-        Ok(part) => quoted(heap, part.bytes),
+        Ok(part) => { let text = Quoted(part.bytes); format!(in heap; "{text}") }
         Err(fault) => refused(heap, fault),
     }
 }
