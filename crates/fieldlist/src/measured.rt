@@ -2,7 +2,7 @@
 ghost use Rattle.std.specs.Prelude.{◌≡◌, IfOk, string_bytes};
 ghost use Rattle.fieldlist.specs.Measured.{measured, line_text, wanted_text};
 
-use super::record_lines::{image_lines, record_of, refused_line};
+use super::record_lines::{Subject, record_of};
 use super::sheets::{LONGEST_BODY, number};
 use deck::Deck;
 use fields::FieldFault;
@@ -41,16 +41,20 @@ fn line_fields<D: Deck>(
     let line = wanted.line;
     let name = band_name(heap, wanted.band)?;
     let subject = format!(in heap; "LINE {name} {line}")?;
+    let subject = Subject {
+        heap,
+        name: subject.as_str(),
+    };
     let mut body = [0; LONGEST_BODY];
     match reader.line(wanted.band, line, &mut body) {
         Ok(length) => {
             if !is_measured(outline.sensor, outline.correction) {
-                return refused_line(heap, subject.as_str(), FieldFault::Record.number());
+                return subject.refused(FieldFault::Record.number());
             }
             let record = record_of(heap, IMAGE, &body[..length])?;
-            image_lines(heap, subject.as_str(), record.as_slice())
+            subject.image(record.as_slice())
         }
-        Err(refusal) => refused_line(heap, subject.as_str(), number(refusal)),
+        Err(refusal) => subject.refused(number(refusal)),
     }
 }
 

@@ -4,7 +4,7 @@ ghost use Rattle.reader.specs.Refusals.{told_refusal};
 ghost use Rattle.listing.specs.Tapes.{each, present};
 ghost use Rattle.fieldlist.specs.Sheets.{annotation, annotations_to};
 
-use super::record_lines::{annotation_lines, record_of, refused_line};
+use super::record_lines::{Subject, record_of};
 use deck::Deck;
 use listing::band_name;
 use reader::{Reader, Refusal};
@@ -40,13 +40,17 @@ fn annotation<D: Deck>(
 {
     let name = band_name(heap, code)?;
     let subject = format!(in heap; "ANNOTATION {name} {index}")?;
+    let subject = Subject {
+        heap,
+        name: subject.as_str(),
+    };
     let mut body = [0; LONGEST_BODY];
     match reader.sheet(code, ANNOTATION_SHEET, index, &mut body) {
         Ok(length) => {
             let record = record_of(heap, ANNOTATION, &body[..length])?;
-            annotation_lines(heap, subject.as_str(), record.as_slice())
+            subject.annotation(record.as_slice())
         }
-        Err(refusal) => refused_line(heap, subject.as_str(), number(refusal)),
+        Err(refusal) => subject.refused(number(refusal)),
     }
 }
 
