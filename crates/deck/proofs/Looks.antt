@@ -82,7 +82,7 @@ pub never_short : (o : Option Block) (room : ℕ) (e : Short) → ((xs : List �
 never_short None room e h f = let z : ◌≡◌ {A = ℕ} 0 1 = cc in omega arith
 never_short (Some (written xs)) room e h f =
     let fits : ltb room (length xs) ≡ false = le-ltb room (length xs) (h xs refl) in
-    let whole : fetched (Some (written xs)) room ≡ Ok (Record (length xs)) = cond-false {A = Result Kind Short} (ltb room (length xs)) (Err record {}) (Ok (Record (length xs))) fits in
+    let whole : fetched (Some (written xs)) room ≡ Ok (Some (Record (length xs))) = cond-false {A = Result (Option (Kind ℕ)) Short} (ltb room (length xs)) (Err record {}) (Ok (Some (Record (length xs)))) fits in
     let z : ◌≡◌ {A = ℕ} 0 1 = cc in omega arith
 never_short (Some mark) room e h f = let z : ◌≡◌ {A = ℕ} 0 1 = cc in omega arith
 never_short (Some bad) room e h f = let z : ◌≡◌ {A = ℕ} 0 1 = cc in omega arith
@@ -107,14 +107,14 @@ pub record Read (o : Option Block) (buffer : List ℕ) (n : ℕ) : Type 0 where
   pub long : length bytes ≡ n
   pub front : filled o buffer ≡ bytes ++ drop n buffer
 
-same_length : (m n : ℕ) → ◌≡◌ {A = Result Kind Short} (Ok (Record m)) (Ok (Record n)) → m ≡ n
+same_length : (m n : ℕ) → ◌≡◌ {A = Result (Option (Kind ℕ)) Short} (Ok (Some (Record m))) (Ok (Some (Record n))) → m ≡ n
 same_length m n e = cc
 
-read_record : (xs buffer : List ℕ) (n : ℕ) (b : Bool) → cond {A = Result Kind Short} b (Err record {}) (Ok (Record (length xs))) ≡ Ok (Record n) → (length xs ≡ n) × (cond b buffer (xs ++ drop (length xs) buffer) ≡ xs ++ drop n buffer)
+read_record : (xs buffer : List ℕ) (n : ℕ) (b : Bool) → cond {A = Result (Option (Kind ℕ)) Short} b (Err record {}) (Ok (Some (Record (length xs)))) ≡ Ok (Some (Record n)) → (length xs ≡ n) × (cond b buffer (xs ++ drop (length xs) buffer) ≡ xs ++ drop n buffer)
 read_record xs buffer n true e = let z : ◌≡◌ {A = ℕ} 0 1 = cc in absurd (omega arith)
 read_record xs buffer n false e = let long = same_length (length xs) n e in (long, ap (λ k. xs ++ drop k buffer) long)
 
-pub fetched_record : (o : Option Block) (buffer : List ℕ) (n : ℕ) → fetched o (length buffer) ≡ Ok (Record n) → Read o buffer n
+pub fetched_record : (o : Option Block) (buffer : List ℕ) (n : ℕ) → fetched o (length buffer) ≡ Ok (Some (Record n)) → Read o buffer n
 fetched_record None buffer n e = let z : ◌≡◌ {A = ℕ} 0 1 = cc in absurd (omega arith)
 fetched_record (Some (written xs)) buffer n e = let r = read_record xs buffer n (ltb (length buffer) (length xs)) e in record { bytes = xs; is = refl; long = r.0; front = r.1 }
 fetched_record (Some mark) buffer n e = let z : ◌≡◌ {A = ℕ} 0 1 = cc in absurd (omega arith)

@@ -15,13 +15,13 @@ pub const MOST_REELS: usize = 9;
 // The most blocks on a reel.
 pub const MOST_BLOCKS: u32 = 65535;
 
-// What stands at a place of the set: a record of so many bytes, a tape mark, a bad block, or nothing.
+// The kind of a block: a record, with what is told of it (its length, its bytes, where it lies); a tape mark; or a bad block. Where there may be no
+// block, an `Option` says so.
 #[derive(Clone, Copy, PartialEq, Eq, Debug)]
-pub enum Kind {
-    Record(usize),
+pub enum Kind<R> {
+    Record(R),
     Mark,
     Bad,
-    Absent,
 }
 
 // The answer of a fetch whose buffer is shorter than the record.
@@ -38,14 +38,14 @@ pub trait Deck {
         ensures stays { meaning self.new ≡ meaning self.old }
         ensures value { result ≡ length (meaning self.old) };
 
-    // What stands at a block of a reel.
-    fn kind(&mut self, reel: u32, block: u32) -> Kind
+    // What stands at a block of a reel, a record with its length, if there is such a block.
+    fn kind(&mut self, reel: u32, block: u32) -> Option<Kind<usize>>
         ensures stays { meaning self.new ≡ meaning self.old }
         ensures value { result ≡ kind_of (look (meaning self.old) reel block) };
 
     // The same, and a record's bytes are put at the front of the buffer. Where the buffer is shorter than the record, the
     // answer is `Short`. Nothing else is written.
-    fn fetch(&mut self, reel: u32, block: u32, buffer: &mut [u8]) -> Result<Kind, Short>
+    fn fetch(&mut self, reel: u32, block: u32, buffer: &mut [u8]) -> Result<Option<Kind<usize>>, Short>
         ensures stays { meaning self.new ≡ meaning self.old }
         ensures value { result ≡ fetched (look (meaning self.old) reel block) (length buffer.old) }
         ensures bytes { buffer.new ≡ filled (look (meaning self.old) reel block) buffer.old };

@@ -10,8 +10,8 @@ use Rattle.deck.specs.Words.{value}
 use Rattle.image.specs.Indexed.{blocks, first_entry, header, says, Lies, Entry, Encodes, and_then, row, whole, reel_count, block_count, check_entry, entry, cut, reel_entries, verdict}
 use Rattle.image.specs.Opened.{Exactly}
 use Rattle.image.specs.Stored.{Verdict, stored, stored_as}
-use Rattle.image.specs.declared.stored.Stored.{Stored}
-use Rattle.image.specs.declared.stored.Stored.TheVariants.{Record, Mark, Bad}
+use Rattle.deck.specs.declared.Kind.{Kind}
+use Rattle.deck.specs.declared.Kind.TheVariants.{Record, Mark, Bad}
 use Rattle.image.proofs.Rows.{and_then_ok, row_length, row_at, row_from}
 use Rattle.deck.proofs.Looks.{block_sound, reel_sound}
 use Rattle.image.proofs.Places.{stored_word}
@@ -51,7 +51,7 @@ say_count xs at n s u =
     ∙ cond-false (nat_lt 65535 n) (Err (3, at)) (Ok n) (le-ltb 65535 n u)
 
 -- An entry that is read is its block's.
-checked_entry : (xs : List ℕ) (head at offset kind : ℕ) (b : Block) (o : Option Stored) → says xs at offset → says xs (at + 4) kind → stored kind ≡ o → check_entry xs head offset (at + 4) o ≡ Ok b → Entry xs head at b × SoundBlock b
+checked_entry : (xs : List ℕ) (head at offset kind : ℕ) (b : Block) (o : Option (Kind ℕ)) → says xs at offset → says xs (at + 4) kind → stored kind ≡ o → check_entry xs head offset (at + 4) o ≡ Ok b → Entry xs head at b × SoundBlock b
 checked_entry xs head at offset kind b None s k is e = let z : ◌≡◌ {A = ℕ} 0 1 = cc in absurd (omega arith)
 checked_entry xs head at offset kind b (Some (Record n)) s k is e =
     let bytes = take n (drop offset xs) in

@@ -1,23 +1,27 @@
 -- What lies at the entry of a block of an indexed image.
-use Rattle.std.specs.Prelude.{◌≡◌, ℕ, ◌+◌, ◌-◌, ◌*◌, ◌<◌, ◌≤◌, true, List, [], ◌++◌, length, get_or, take, drop, is_ok, Some, slice_index_or, refl}
-use Rattle.std.proofs.Common.{sym, ap, subst, ◌∙◌, arith, length-append}
+use Rattle.std.specs.Prelude.{◌≡◌, ℕ, ◌+◌, ◌-◌, ◌*◌, ◌<◌, ◌≤◌, true, List, [], ◌++◌, length, get_or, take, drop, is_ok, Some, None, nat_lt, slice_index_or, refl}
+use Rattle.std.proofs.Common.{sym, ap, subst, ◌∙◌, arith, length-append, vec_items}
 use Rattle.std.proofs.lemmas.List.{get_or_append_left, get_or-append-add}
-use Rattle.deck.specs.Answers.{kind_of}
+use Rattle.std.proofs.lemmas.Bool.{le-ltb, cond-false}
 use Rattle.deck.specs.Tape.{Block, written, mark, bad, Reel, TapeSet, Sound, SoundBlock, look}
 use Rattle.deck.specs.Words.{value}
-use Rattle.deck.proofs.Looks.{look-there}
 use Rattle.image.specs.Cursor.{stored_at}
-use Rattle.image.specs.Found.{seen, Inside, shown_kind, found_if, listed_at}
+use Rattle.image.specs.Found.{lent, lent_if, listed_at}
 use Rattle.image.specs.Indexed.{blocks, first_entry, header, Entry, Encodes, verdict, meant}
+use Rattle.image.specs.Opened.{indexed_set}
 use Rattle.image.specs.Stored.{stored_as}
+use Rattle.image.specs.declared.indexed.Indexed.{Indexed}
 use Rattle.image.proofs.Indices.{judged}
 use Rattle.image.proofs.Openings.{is_set}
 use Rattle.deck.proofs.Looks.{block_sound, reel_sound}
-use Rattle.image.proofs.Places.{joined_at, stored_there, kind_seen}
+use Rattle.image.proofs.Places.{joined_at, stored_there, looked}
 
 -- An opened image is the image of the set that it means.
 pub opened : (xs : List ℕ) → is_ok (verdict xs) ≡ true → Sound (meant xs) × Encodes xs (meant xs)
 opened xs o = judged xs (meant xs) (is_set (verdict xs) o)
+
+pub held : (i : Indexed) → Sound (indexed_set i) × Encodes (vec_items i.bytes) (indexed_set i)
+held i = opened (vec_items i.bytes) i.judged
 
 -- A block of a reel among all blocks of the set.
 module _ (set : TapeSet) (r b : ℕ) (on_reel : r < length set) (on_block : b < length (slice_index_or set r [])) where
@@ -34,12 +38,14 @@ module _ (set : TapeSet) (r b : ℕ) (on_reel : r < length set) (on_block : b < 
       ∙ get_or_append_left (slice_index_or set r []) (blocks (drop (r + 1) set)) mark b on_block
 
 -- What an entry leads to is its block.
-listed_as : (xs : List ℕ) (head at : ℕ) (b : Block) → Entry xs head at b → (seen xs (found_if (value (drop at xs)) (Some (stored_as b))) ≡ Some b) × Inside xs (found_if (value (drop at xs)) (Some (stored_as b)))
+listed_as : (xs : List ℕ) (head at : ℕ) (b : Block) → Entry xs head at b → lent xs (value (drop at xs)) (stored_as b) ≡ Some b
 listed_as xs head at (written bytes) l =
-    let offset_is = l.leads.1 in
-    (ap (λ k. Some (written (take (length bytes) (drop k xs)))) offset_is ∙ ap (λ t. Some (written t)) l.there, omega (arith, offset_is, l.inside))
-listed_as xs head at mark l = (refl, tt)
-listed_as xs head at bad l = (refl, tt)
+    let n = length bytes in
+    cond-false (nat_lt (length xs) (value (drop at xs) + n)) None (Some (written (take n (drop (value (drop at xs)) xs)))) (le-ltb (length xs) (value (drop at xs) + n) (omega (arith, l.leads.1, l.inside)))
+    ∙ ap (λ k. Some (written (take n (drop k xs)))) l.leads.1
+    ∙ ap (λ t. Some (written t)) l.there
+listed_as xs head at mark l = refl
+listed_as xs head at bad l = refl
 
 kind_whole : (xs : List ℕ) (head at : ℕ) (b : Block) → SoundBlock b → Entry xs head at b → (at + 8 ≤ length xs) × (stored_at xs (at + 4) ≡ Some (stored_as b))
 kind_whole xs head at (written bytes) s l = (omega (arith, l.kind.0), stored_there xs (at + 4) (written bytes) s l.kind.0 l.kind.1)
@@ -48,26 +54,22 @@ kind_whole xs head at bad s l = (omega (arith, l.1.0), stored_there xs (at + 4) 
 
 pub record Listed (xs : List ℕ) (at reel block : ℕ) : Type 0 where
   pub whole : at + 8 ≤ length xs
-  pub finds : seen xs (listed_at xs at) ≡ look (meant xs) reel block
-  pub shows : shown_kind (listed_at xs at) ≡ kind_of (look (meant xs) reel block)
-  pub inside : Inside xs (listed_at xs at)
+  pub finds : listed_at xs at ≡ look (meant xs) reel block
 
 -- The entry that the counts lead to is that of the block that was asked for.
-pub listed_there : (xs : List ℕ) (reel block reels count before : ℕ) → is_ok (verdict xs) ≡ true → 0 < reel → 0 < block → reel - 1 < reels → block ≤ count → reels ≡ length (meant xs) → count ≡ length (slice_index_or (meant xs) (reel - 1) []) → before ≡ length (blocks (take (reel - 1) (meant xs))) → Listed xs (4 + 4 * reels + 8 * (before + (block - 1))) reel block
-listed_there xs reel block reels count before o hr hb on_reel on_block many counted is =
-    let there : reel - 1 < length (meant xs) = omega arith in
-    let set = meant xs in
-    let e = opened xs o in
-    let on : block - 1 < length (slice_index_or set (reel - 1) []) = omega arith in
-    let b = get_or (slice_index_or set (reel - 1) []) (block - 1) mark in
-    let i = before + (block - 1) in
-    let at = 4 + 4 * reels + 8 * i in
+pub listed_there : (i : Indexed) (reel block r b reels before : ℕ) → (1 ≤ reel) × (r ≡ reel - 1) → (1 ≤ block) × (b ≡ block - 1) → r < length (indexed_set i) → b < length (slice_index_or (indexed_set i) r []) → reels ≡ length (indexed_set i) → before ≡ length (blocks (take r (indexed_set i))) → Listed (vec_items i.bytes) (4 + 4 * reels + 8 * (before + b)) reel block
+listed_there i reel block r b reels before hr hb on_reel on_block many is =
+    let xs = vec_items i.bytes in
+    let set = indexed_set i in
+    let e = held i in
+    let it = get_or (slice_index_or set r []) b mark in
+    let entry = before + b in
+    let at = 4 + 4 * reels + 8 * entry in
     let head = header (length set) (length (blocks set)) in
-    let same : get_or (blocks set) i mark ≡ b = ap (λ k. get_or (blocks set) (k + (block - 1)) mark) is ∙ block_among set (reel - 1) (block - 1) there on in
-    let within : i < length (blocks set) = omega (arith, is, block_within set (reel - 1) (block - 1) there on) in
-    let entry : Entry xs head at b = subst (λ n. Entry xs head (4 + 4 * n + 8 * i) b) (sym many) (subst (Entry xs head (first_entry (length set) + 8 * i)) same (e.1.entries i within)) in
-    let sound : SoundBlock b = block_sound (slice_index_or set (reel - 1) []) (block - 1) (reel_sound set (reel - 1) e.0.reels).1 in
-    let k = kind_whole xs head at b sound entry in
-    let l = subst (λ s. (seen xs (found_if (value (drop at xs)) s) ≡ Some b) × Inside xs (found_if (value (drop at xs)) s)) (sym k.1) (listed_as xs head at b entry) in
-    let finds : seen xs (listed_at xs at) ≡ look set reel block = l.0 ∙ sym (look-there set reel block hr hb there on) in
-    record { whole = k.0; finds = finds; shows = kind_seen xs (listed_at xs at) l.1 ∙ ap kind_of finds; inside = l.1 }
+    let same : get_or (blocks set) entry mark ≡ it = ap (λ k. get_or (blocks set) (k + b) mark) is ∙ block_among set r b on_reel on_block in
+    let within : entry < length (blocks set) = omega (arith, is, block_within set r b on_reel on_block) in
+    let lies : Entry xs head at it = subst (λ n. Entry xs head (4 + 4 * n + 8 * entry) it) (sym many) (subst (Entry xs head (first_entry (length set) + 8 * entry)) same (e.1.entries entry within)) in
+    let sound : SoundBlock it = block_sound (slice_index_or set r []) b (reel_sound set r e.0.reels).1 in
+    let k = kind_whole xs head at it sound lies in
+    let found = ap (lent_if xs (value (drop at xs))) k.1 ∙ listed_as xs head at it lies in
+    record { whole = k.0; finds = found ∙ sym (looked set reel block r b hr hb on_reel on_block) }

@@ -1,24 +1,20 @@
 -- What lies at the place of a block of a strip.
 use Rattle.std.specs.Prelude.{◌≡◌, ℕ, zero, suc, ◌+◌, ◌-◌, ◌<◌, ◌≤◌, List, [], ◌∷◌, ◌++◌, length, get_or, take, drop, Some, None, nat_lt, slice_index_or, refl}
-use Rattle.std.proofs.Common.{sym, ap, subst, ◌∙◌, append_assoc, arith, add-one, lit≤, length-append, length-take, length-drop}
+use Rattle.std.proofs.Common.{sym, ap, subst, ◌∙◌, append_assoc, arith, add-one, lit≤, length-append, length-drop}
 use Rattle.std.proofs.Math.Seq.{drop-append-add, drop-append_seam}
 use Rattle.std.specs.List.{flat_map}
 use Rattle.std.proofs.lemmas.List.{drop_at, drop-drop}
 use Rattle.std.proofs.lemmas.Bool.{le-ltb, cond-false}
 use Rattle.std.proofs.lemmas.Bool.Decides.{nat_tests}
-use Rattle.deck.specs.Tape.{Block, written, mark, bad, TapeSet, SoundBlock, look}
-use Rattle.deck.specs.Answers.{kind_of}
-use Rattle.deck.specs.declared.Kind.TheVariants as kinds
+use Rattle.deck.specs.Tape.{Block, written, mark, bad, TapeSet, SoundBlock, look_on, look}
 use Rattle.deck.specs.Words.{word, value}
-use Rattle.deck.proofs.Looks.{block_sound, reel_sound, look-there}
+use Rattle.deck.proofs.Looks.{block_sound, reel_sound, nth-there}
 use Rattle.image.specs.Stored.{stored, stored_as}
 use Rattle.image.specs.Strip.{block_bytes, reel_bytes, encoded, size, meant, place}
 use Rattle.image.specs.Cursor.{stored_at, Reads, Stands}
 use Rattle.image.specs.declared.cursor.Cursor.{Cursor}
-use Rattle.image.specs.Found.{seen, Inside, shown_kind, found_if, found_at}
-use Rattle.image.specs.declared.found.Found.{Found}
-use Rattle.image.specs.declared.found.Found.TheVariants as founds
-use Rattle.image.specs.declared.stored.Stored.{Stored}
+use Rattle.image.specs.Found.{lent, lent_if, found_at}
+use Rattle.deck.specs.declared.Kind.{Kind}
 use Rattle.image.proofs.Words.{value_word}
 use Rattle.image.proofs.Strips.{word_of, size_of, block_of, judged_sound}
 
@@ -120,10 +116,10 @@ back_kind xs at b h =
     ap (stored_at xs) e ∙ stored_there xs (at + (size (stored_as b) - 4)) b h.sound (omega (arith, h.fits, size_four b)) tail
 
 -- The cursor over a block, and back over it.
-abbrev pub moved_on : Cursor → Stored → Cursor
+abbrev pub moved_on : Cursor → Kind ℕ → Cursor
 moved_on c s = record { reel = c.reel; block = c.block + 1; at = c.at + size s }
 
-abbrev pub moved_back : Cursor → Stored → Cursor
+abbrev pub moved_back : Cursor → Kind ℕ → Cursor
 moved_back c s = record { reel = c.reel; block = c.block - 1; at = c.at - size s }
 
 pub record On (xs : List ℕ) (c : Cursor) (b : Block) : Type 0 where
@@ -168,29 +164,30 @@ stands_behind xs c reads s h =
     }
 
 -- What is found at a block's place is the block.
-found_as : (xs : List ℕ) (at : ℕ) (b : Block) → BlockAt xs at b → (seen xs (found_if (at + 4) (Some (stored_as b))) ≡ Some b) × Inside xs (found_if (at + 4) (Some (stored_as b)))
+found_as : (xs : List ℕ) (at : ℕ) (b : Block) → BlockAt xs at b → lent xs (at + 4) (stored_as b) ≡ Some b
 found_as xs at (written bytes) h =
     let there : drop (at + 4) xs ≡ drop 4 (block_bytes (written bytes) ++ h.bytes.0) = sym (drop-drop 4 at xs) ∙ ap (drop 4) h.bytes.1 in
-    (ap (λ t. Some (written (take (length bytes) t))) there ∙ ap Some (block_of (written bytes) h.bytes.0), omega (arith, h.fits))
-found_as xs at mark h = (refl, tt)
-found_as xs at bad h = (refl, tt)
+    cond-false (nat_lt (length xs) (at + 4 + length bytes)) None (Some (written (take (length bytes) (drop (at + 4) xs)))) (le-ltb (length xs) (at + 4 + length bytes) (omega (arith, h.fits)))
+    ∙ ap (λ t. Some (written (take (length bytes) t))) there
+    ∙ ap Some (block_of (written bytes) h.bytes.0)
+found_as xs at mark h = refl
+found_as xs at bad h = refl
 
-pub found_block : (xs : List ℕ) (at : ℕ) (b : Block) → BlockAt xs at b → (seen xs (found_at xs at) ≡ Some b) × Inside xs (found_at xs at)
-found_block xs at b h = subst (λ o. (seen xs (found_if (at + 4) o) ≡ Some b) × Inside xs (found_if (at + 4) o)) (sym (front_kind xs at b h)) (found_as xs at b h)
+pub found_block : (xs : List ℕ) (at : ℕ) (b : Block) → BlockAt xs at b → found_at xs at ≡ Some b
+found_block xs at b h = ap (lent_if xs (at + 4)) (front_kind xs at b h) ∙ found_as xs at b h
 
-pub kind_seen : (xs : List ℕ) (f : Found) → Inside xs f → shown_kind f ≡ kind_of (seen xs f)
-kind_seen xs (founds.Record at n) h =
-    let long : length (take n (drop at xs)) ≡ n = simp (length-take, length-drop) (omega arith) in
-    ap kinds.Record (sym long)
-kind_seen xs founds.Mark h = refl
-kind_seen xs founds.Bad h = refl
-kind_seen xs founds.Absent h = refl
+-- The block of a set at a place that is counted from 1, and so from 0.
+pub looked : (set : TapeSet) (reel block r b : ℕ) → (1 ≤ reel) × (r ≡ reel - 1) → (1 ≤ block) × (b ≡ block - 1) → r < length set → b < length (slice_index_or set r []) → look set reel block ≡ Some (slice_index_or (slice_index_or set r []) b mark)
+looked set reel block r b hr hb on_reel on_block =
+    let er : reel ≡ suc r = omega arith in
+    let eb : block ≡ suc b = omega arith in
+    ap (λ n. look set n block) er
+    ∙ ap (look set (suc r)) eb
+    ∙ ap (λ o. look_on o (suc b)) (nth-there set r [] on_reel)
+    ∙ nth-there (slice_index_or set r []) b mark on_block
 
 -- What is found where the cursor stands is the block that was asked for.
-pub found_there : (xs : List ℕ) (c : Cursor) (reel block : ℕ) → Reads xs → Stands xs c → 0 < reel → 0 < block → c.reel ≡ reel - 1 → c.block ≡ block - 1 → block ≤ length (slice_index_or (meant xs) (reel - 1) []) → (seen xs (found_at xs c.at) ≡ look (meant xs) reel block) × Inside xs (found_at xs c.at)
-found_there xs c reel block reads s r b er eb fits =
-    let inside : c.block < length (slice_index_or (meant xs) c.reel []) = subst (λ n. c.block < length (slice_index_or (meant xs) n [])) (sym er) (omega arith) in
-    let f = found_block xs c.at (block_on xs c) (stands_on xs c reads s inside).there in
-    let there : look (meant xs) reel block ≡ Some (slice_index_or (slice_index_or (meant xs) (reel - 1) []) (block - 1) mark) = look-there (meant xs) reel block r b (omega (arith, s.on_reel)) (omega arith) in
-    let same : block_on xs c ≡ get_or (slice_index_or (meant xs) (reel - 1) []) (block - 1) mark = ap (λ n. get_or (slice_index_or (meant xs) n []) c.block mark) er ∙ ap (λ n. get_or (slice_index_or (meant xs) (reel - 1) []) n mark) eb in
-    (f.0 ∙ ap Some same ∙ sym there, f.1)
+pub found_there : (xs : List ℕ) (c : Cursor) (reel block : ℕ) → Reads xs → Stands xs c → (1 ≤ reel) × (c.reel ≡ reel - 1) → (1 ≤ block) × (c.block ≡ block - 1) → c.block < length (slice_index_or (meant xs) c.reel []) → found_at xs c.at ≡ look (meant xs) reel block
+found_there xs c reel block reads s hr hb inside =
+    found_block xs c.at (block_on xs c) (stands_on xs c reads s inside).there
+    ∙ sym (looked (meant xs) reel block c.reel c.block hr hb s.on_reel inside)

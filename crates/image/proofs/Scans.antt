@@ -9,8 +9,8 @@ use Rattle.image.specs.Strip.{block_bytes, encoded, size, next, follow, judge, v
 use Rattle.image.specs.Chart.{no_reels, with_reel, Charts}
 use Rattle.image.specs.Scan.{Scanned}
 use Rattle.image.specs.declared.chart.Chart.{Chart}
-use Rattle.image.specs.declared.stored.Stored.{Stored}
-use Rattle.image.specs.declared.stored.Stored.TheVariants.{Record, Mark, Bad}
+use Rattle.deck.specs.declared.Kind.{Kind}
+use Rattle.deck.specs.declared.Kind.TheVariants.{Record, Mark, Bad}
 use Rattle.image.specs.declared.next.Next.{Next}
 use Rattle.image.specs.declared.next.Next.TheVariants.{Finished, ReelEnds, Holds}
 use Rattle.image.proofs.Words.{Bytes}
@@ -127,24 +127,24 @@ going_ends xs c blocks at g n =
       nine = length-set c.counts c.reels blocks ∙ g.nine;
     }
 
-pub size_some : (s : Stored) → 1 ≤ size s
+pub size_some : (s : Kind ℕ) → 1 ≤ size s
 size_some (Record n) = omega arith
 size_some Mark = lit≤ tt
 size_some Bad = lit≤ tt
 
-pub size_inside : (s : Stored) (xs : List ℕ) → 4 ≤ length xs → Closed s xs → size s ≤ length xs
+pub size_inside : (s : Kind ℕ) (xs : List ℕ) → 4 ≤ length xs → Closed s xs → size s ≤ length xs
 size_inside (Record n) xs l h = h.0
 size_inside Mark xs l h = l
 size_inside Bad xs l h = l
 
-pub block-length : (s : Stored) (xs : List ℕ) → Closed s xs → length (block_bytes (block s (drop 4 xs))) ≡ size s
+pub block-length : (s : Kind ℕ) (xs : List ℕ) → Closed s xs → length (block_bytes (block s (drop 4 xs))) ≡ size s
 block-length (Record n) xs c =
     let long : length (take n (drop 4 xs)) ≡ n = simp (length-take, length-drop) (omega (arith, c.0)) in
     simp length-append (omega (arith, long))
 block-length Mark xs c = refl
 block-length Bad xs c = refl
 
-pub going_holds : (xs : List ℕ) (c : Chart) (blocks at : ℕ) (s : Stored) → Going xs c blocks at → next at c.reels blocks (drop at xs) ≡ Ok (Holds s) → Going xs c (blocks + 1) (at + size s)
+pub going_holds : (xs : List ℕ) (c : Chart) (blocks at : ℕ) (s : Kind ℕ) → Going xs c blocks at → next at c.reels blocks (drop at xs) ≡ Ok (Holds s) → Going xs c (blocks + 1) (at + size s)
 going_holds xs c blocks at s g n =
     let n' = at_counts xs c blocks at (Ok (Holds s)) g n in
     let u = unrolled xs g.reels g.reel at g.words (Ok (Holds s)) g.enough g.inside g.judged n' in

@@ -9,8 +9,8 @@ use Rattle.deck.specs.Tape.{Block, written, mark, bad, Reel, TapeSet, Sound, Sou
 use Rattle.deck.specs.Words.{word, value}
 use Rattle.image.specs.Stored.{Verdict, stored, block, stored_as}
 use Rattle.image.specs.Strip.{block_bytes, reel_bytes, encoded, size, next, check_closed, check_kind, check_word, check_whole, follow, judge, verdict}
-use Rattle.image.specs.declared.stored.Stored.{Stored}
-use Rattle.image.specs.declared.stored.Stored.TheVariants.{Record, Mark, Bad}
+use Rattle.deck.specs.declared.Kind.{Kind}
+use Rattle.deck.specs.declared.Kind.TheVariants.{Record, Mark, Bad}
 use Rattle.image.specs.declared.next.Next.{Next}
 use Rattle.image.specs.declared.next.Next.TheVariants.{Finished, ReelEnds, Holds}
 use Rattle.image.proofs.Words.{Bytes, bytes_drop, value_word, word_value}
@@ -36,12 +36,12 @@ chosen true e y x h = (refl, cc)
 chosen false e y x h = let z : ◌≡◌ {A = ℕ} 0 1 = cc in absurd (omega arith)
 
 -- What is known of the bytes of a stored block.
-abbrev pub Closed : Stored → List ℕ → Type 0
+abbrev pub Closed : Kind ℕ → List ℕ → Type 0
 Closed (Record n) xs = (n + 8 ≤ length xs) × (value (drop (n + 4) xs) ≡ n)
 Closed Mark xs = Unit {0}
 Closed Bad xs = Unit {0}
 
-closed : (at : ℕ) (s : Stored) (xs : List ℕ) (t : Stored) → check_closed at s xs ≡ Ok (Holds t) → (s ≡ t) × Closed s xs
+closed : (at : ℕ) (s : Kind ℕ) (xs : List ℕ) (t : Kind ℕ) → check_closed at s xs ≡ Ok (Holds t) → (s ≡ t) × Closed s xs
 closed at (Record n) xs t e =
     let last = cond {A = Verdict Next} (value (drop (n + 4) xs) == n) (Ok (Holds (Record n))) (Err (2, at + (n + 4))) in
     let fit = past (nat_lt (length xs) (n + 8)) (1, at) last (Holds t) e in
@@ -50,7 +50,7 @@ closed at (Record n) xs t e =
 closed at Mark xs t e = (cc, tt)
 closed at Bad xs t e = (cc, tt)
 
-kept : (at blocks : ℕ) (o : Option Stored) (xs : List ℕ) (t : Stored) → check_kind at blocks o xs ≡ Ok (Holds t) → (blocks < 65535) × (o ≡ Some t) × Closed t xs
+kept : (at blocks : ℕ) (o : Option (Kind ℕ)) (xs : List ℕ) (t : Kind ℕ) → check_kind at blocks o xs ≡ Ok (Holds t) → (blocks < 65535) × (o ≡ Some t) × Closed t xs
 kept at blocks None xs t e = let z : ◌≡◌ {A = ℕ} 0 1 = cc in absurd (omega arith)
 kept at blocks (Some s) xs t e =
     let room = past (nat_le 65535 blocks) (3, at) (check_closed at s xs) (Holds t) e in
@@ -58,14 +58,14 @@ kept at blocks (Some s) xs t e =
     (leb-false _ _ room.0, ap Some is.0, subst (λ u. Closed u xs) is.0 is.1)
 
 -- What is known where a block stands.
-pub record Held (reels blocks : ℕ) (xs : List ℕ) (s : Stored) : Type 0 where
+pub record Held (reels blocks : ℕ) (xs : List ℕ) (s : Kind ℕ) : Type 0 where
   pub reels_left : reels < 9
   pub blocks_left : blocks < 65535
   pub whole : 4 ≤ length xs
   pub kind : stored (value xs) ≡ Some s
   pub closing : Closed s xs
 
-pub held : (at reels blocks : ℕ) (xs : List ℕ) (s : Stored) → next at reels blocks xs ≡ Ok (Holds s) → Held reels blocks xs s
+pub held : (at reels blocks : ℕ) (xs : List ℕ) (s : Kind ℕ) → next at reels blocks xs ≡ Ok (Holds s) → Held reels blocks xs s
 held at reels blocks xs s e =
     let go = other (length xs == 0 && (nat_lt 0 reels && blocks == 0)) (Ok Finished) (check_whole at reels blocks xs) (Holds s) (λ h. let z : ◌≡◌ {A = ℕ} 0 1 = cc in omega arith) e in
     let left = past (nat_le 9 reels) (3, at) (cond (nat_lt (length xs) 4) (Err (1, at)) (check_word at blocks (value xs) xs)) (Holds s) go.1 in
@@ -81,17 +81,17 @@ held at reels blocks xs s e =
     }
 
 -- A kind word is the length of its record, and what else it can be.
-abbrev pub word_of : Stored → ℕ
+abbrev pub word_of : Kind ℕ → ℕ
 word_of (Record n) = n
 word_of Mark = 0
 word_of Bad = 4294967295
 
-abbrev pub Proper : Stored → Type 0
+abbrev pub Proper : Kind ℕ → Type 0
 Proper (Record n) = (1 ≤ n) × (n ≤ 5388)
 Proper Mark = Unit {0}
 Proper Bad = Unit {0}
 
-pub stored_is : (w : ℕ) (s : Stored) → stored w ≡ Some s → (w ≡ word_of s) × Proper s
+pub stored_is : (w : ℕ) (s : Kind ℕ) → stored w ≡ Some s → (w ≡ word_of s) × Proper s
 stored_is w (Record n) e = grind (arith, nat_tests)
 stored_is w Mark e = grind (arith, nat_tests)
 stored_is w Bad e = grind (arith, nat_tests)
@@ -114,13 +114,13 @@ record_bytes xs n b v c =
     let whole : xs ≡ word n ++ (bytes ++ (word n ++ drop (n + 8) xs)) = front ∙ ap (λ t. word n ++ t) (middle ∙ ap (λ t. bytes ++ t) (back ∙ ap (λ t. word n ++ t) rest)) in
     subst (λ m. xs ≡ (word m ++ (bytes ++ word m)) ++ drop (n + 8) xs) (sym long) (whole ∙ sym (simp append_assoc))
 
-pub held_bytes : (s : Stored) (xs : List ℕ) → Bytes xs → 4 ≤ length xs → value xs ≡ word_of s → Closed s xs → xs ≡ block_bytes (block s (drop 4 xs)) ++ drop (size s) xs
+pub held_bytes : (s : Kind ℕ) (xs : List ℕ) → Bytes xs → 4 ≤ length xs → value xs ≡ word_of s → Closed s xs → xs ≡ block_bytes (block s (drop 4 xs)) ++ drop (size s) xs
 held_bytes (Record n) xs b l v c = record_bytes xs n b v c
 held_bytes Mark xs b l v c = spelt xs 0 b l v
 held_bytes Bad xs b l v c = spelt xs 4294967295 b l v
 
 -- One more at the end of what is sound.
-pub sound_block : (s : Stored) (xs : List ℕ) → Proper s → Closed s xs → SoundBlock (block s (drop 4 xs))
+pub sound_block : (s : Kind ℕ) (xs : List ℕ) → Proper s → Closed s xs → SoundBlock (block s (drop 4 xs))
 sound_block (Record n) xs p c =
     let long : length (take n (drop 4 xs)) ≡ n = simp (length-take, length-drop) (omega (arith, c.0)) in
     (omega (arith, long, p.0), omega (arith, long, p.1))
@@ -185,7 +185,7 @@ read_ends at reels reel xs r n =
       blocks = tt;
     }
 
-means_holds : (at : ℕ) (reels : TapeSet) (reel : Reel) (xs : List ℕ) (set : TapeSet) (s : Stored) → next at (length reels) (length reel) xs ≡ Ok (Holds s) → Means reels (reel ++ block s (drop 4 xs) ∷ []) (drop (size s) xs) set → Means reels reel xs set
+means_holds : (at : ℕ) (reels : TapeSet) (reel : Reel) (xs : List ℕ) (set : TapeSet) (s : Kind ℕ) → next at (length reels) (length reel) xs ≡ Ok (Holds s) → Means reels (reel ++ block s (drop 4 xs) ∷ []) (drop (size s) xs) set → Means reels reel xs set
 means_holds at reels reel xs set s n m =
     let h = held at (length reels) (length reel) xs s n in
     let b = block s (drop 4 xs) in
@@ -198,7 +198,7 @@ means_holds at reels reel xs set s n m =
           ∙ m.spells (bytes_drop xs (size s) bytes);
     }
 
-read_holds : (at : ℕ) (reels : TapeSet) (reel : Reel) (xs : List ℕ) (s : Stored) → Read reels reel → next at (length reels) (length reel) xs ≡ Ok (Holds s) → Read reels (reel ++ block s (drop 4 xs) ∷ [])
+read_holds : (at : ℕ) (reels : TapeSet) (reel : Reel) (xs : List ℕ) (s : Kind ℕ) → Read reels reel → next at (length reels) (length reel) xs ≡ Ok (Holds s) → Read reels (reel ++ block s (drop 4 xs) ∷ [])
 read_holds at reels reel xs s r n =
     let h = held at (length reels) (length reel) xs s n in
     record {
@@ -234,7 +234,7 @@ judged_spells xs set b e = sym ((means (length xs + 1) set [] [] 0 xs nothing_re
 passes : (at reels blocks : ℕ) (xs : List ℕ) → reels < 9 → 4 ≤ length xs → next at reels blocks xs ≡ check_word at blocks (value xs) xs
 passes at reels blocks xs r l = grind (arith, nat_tests)
 
-room : (at blocks : ℕ) (s : Stored) (xs : List ℕ) → blocks < 65535 → check_kind at blocks (Some s) xs ≡ check_closed at s xs
+room : (at blocks : ℕ) (s : Kind ℕ) (xs : List ℕ) → blocks < 65535 → check_kind at blocks (Some s) xs ≡ check_closed at s xs
 room at blocks s xs l = cond-false (nat_le 65535 blocks) (Err (3, at)) (check_closed at s xs) (lt-leb 65535 blocks l)
 
 next_end : (at reels blocks : ℕ) (ys : List ℕ) → reels < 9 → next at reels blocks (word 4294967294 ++ ys) ≡ Ok ReelEnds

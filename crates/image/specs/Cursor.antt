@@ -4,10 +4,10 @@ use Rattle.deck.specs.Words.{value}
 use Rattle.image.specs.Stored.{stored}
 use Rattle.image.specs.Strip.{encoded, verdict, meant, place}
 use Rattle.image.specs.declared.cursor.Cursor.{Cursor}
-use Rattle.image.specs.declared.stored.Stored.{Stored}
+use Rattle.deck.specs.declared.Kind.{Kind}
 
 -- The block whose kind word lies at a place, if there is one.
-abbrev pub stored_at : List ℕ → ℕ → Option Stored
+abbrev pub stored_at : List ℕ → ℕ → Option (Kind ℕ)
 stored_at xs at = cond (nat_lt (length xs) (at + 4)) None (stored (value (drop at xs)))
 
 -- The bytes are a strip.

@@ -4,8 +4,8 @@ use Rattle.std.specs.List.{flat_map}
 use Rattle.deck.specs.Tape.{Block, written, mark, bad, TapeSet}
 use Rattle.deck.specs.Words.{value}
 use Rattle.image.specs.Stored.{Verdict, set_of, stored, block}
-use Rattle.image.specs.declared.stored.Stored.{Stored}
-use Rattle.image.specs.declared.stored.Stored.TheVariants.{Record, Mark, Bad}
+use Rattle.deck.specs.declared.Kind.{Kind}
+use Rattle.deck.specs.declared.Kind.TheVariants.{Record, Mark, Bad}
 
 -- The blocks of a set in order, reel by reel.
 abbrev pub blocks : TapeSet → List Block
@@ -74,7 +74,7 @@ block_total xs reels = and_then (row (block_count xs) 4 4 reels) (λ ns. Ok (sum
 
 -- The block with an offset and a kind word at a place: the kind is legal, the offset of a mark or a bad block is 0, and a record lies
 -- behind the header and inside the image.
-abbrev pub check_entry : List ℕ → ℕ → ℕ → ℕ → Option Stored → Verdict Block
+abbrev pub check_entry : List ℕ → ℕ → ℕ → ℕ → Option (Kind ℕ) → Verdict Block
 check_entry xs head offset at None = Err (2, at)
 check_entry xs head offset at (Some (Record n)) =
     cond (nat_lt offset head) (Err (4, at)) (cond (nat_lt (length xs) (offset + n)) (Err (4, at)) (Ok (block (Record n) (drop offset xs))))

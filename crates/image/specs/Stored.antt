@@ -4,8 +4,8 @@ use Rattle.deck.specs.Tape.{Block, written, mark, bad, TapeSet}
 use Rattle.image.specs.declared.refusal.Cause.{Cause}
 use Rattle.image.specs.declared.refusal.Cause.TheVariants.{CutShort, IllegalWord, OverLimit, OutsideImage}
 use Rattle.image.specs.declared.refusal.Refusal.{Refusal}
-use Rattle.image.specs.declared.stored.Stored.{Stored}
-use Rattle.image.specs.declared.stored.Stored.TheVariants.{Record, Mark, Bad}
+use Rattle.deck.specs.declared.Kind.{Kind}
+use Rattle.deck.specs.declared.Kind.TheVariants.{Record, Mark, Bad}
 
 -- The number of each refusal.
 abbrev pub number : Cause → ℕ
@@ -28,23 +28,23 @@ set_of (Ok set) = set
 set_of (Err _) = []
 
 -- What a kind word says: 0 a mark, 4,294,967,295 a bad block, 1 to 5,388 a record of that length, and nothing else.
-abbrev pub stored : ℕ → Option Stored
+abbrev pub stored : ℕ → Option (Kind ℕ)
 stored w = cond (w == 0) (Some Mark) (cond (w == 4294967295) (Some Bad) (cond (nat_le w 5388) (Some (Record w)) None))
 
 -- The block that is so stored, where a record's bytes begin some bytes.
-abbrev pub block : Stored → List ℕ → Block
+abbrev pub block : Kind ℕ → List ℕ → Block
 block (Record n) xs = written (take n xs)
 block Mark xs = mark
 block Bad xs = bad
 
 -- How a block is stored.
-abbrev pub stored_as : Block → Stored
+abbrev pub stored_as : Block → Kind ℕ
 stored_as (written bytes) = Record (length bytes)
 stored_as mark = Mark
 stored_as bad = Bad
 
 -- A record within the limit of its length.
-abbrev pub Short : Stored → Type 0
+abbrev pub Short : Kind ℕ → Type 0
 Short (Record n) = n ≤ 5388
 Short Mark = Unit {0}
 Short Bad = Unit {0}

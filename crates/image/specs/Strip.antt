@@ -4,8 +4,8 @@ use Rattle.std.specs.List.{flat_map}
 use Rattle.deck.specs.Tape.{Block, written, mark, bad, Reel, TapeSet}
 use Rattle.deck.specs.Words.{word, value}
 use Rattle.image.specs.Stored.{Verdict, set_of, stored, block}
-use Rattle.image.specs.declared.stored.Stored.{Stored}
-use Rattle.image.specs.declared.stored.Stored.TheVariants.{Record, Mark, Bad}
+use Rattle.deck.specs.declared.Kind.{Kind}
+use Rattle.deck.specs.declared.Kind.TheVariants.{Record, Mark, Bad}
 use Rattle.image.specs.declared.next.Next.{Next}
 use Rattle.image.specs.declared.next.Next.TheVariants.{Finished, ReelEnds, Holds}
 
@@ -24,7 +24,7 @@ abbrev pub encoded : TapeSet → List ℕ
 encoded set = flat_map reel_bytes set
 
 -- How many bytes of a strip a block takes.
-abbrev pub size : Stored → ℕ
+abbrev pub size : Kind ℕ → ℕ
 size (Record n) = n + 8
 size Mark = 4
 size Bad = 4
@@ -33,14 +33,14 @@ size Bad = 4
 -- `blocks` blocks of the next. A check that fails is a refusal's number and place.
 
 -- A record's bytes and its closing word fit, and that word is equal.
-abbrev pub check_closed : ℕ → Stored → List ℕ → Verdict Next
+abbrev pub check_closed : ℕ → Kind ℕ → List ℕ → Verdict Next
 check_closed at (Record n) xs =
     cond (nat_lt (length xs) (n + 8)) (Err (1, at)) (cond (value (drop (n + 4) xs) == n) (Ok (Holds (Record n))) (Err (2, at + (n + 4))))
 check_closed at Mark xs = Ok (Holds Mark)
 check_closed at Bad xs = Ok (Holds Bad)
 
 -- It is legal, and the reel has room for the block.
-abbrev pub check_kind : ℕ → ℕ → Option Stored → List ℕ → Verdict Next
+abbrev pub check_kind : ℕ → ℕ → Option (Kind ℕ) → List ℕ → Verdict Next
 check_kind at blocks None xs = Err (2, at)
 check_kind at blocks (Some s) xs = cond (nat_le 65535 blocks) (Err (3, at)) (check_closed at s xs)
 

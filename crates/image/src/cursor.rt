@@ -3,8 +3,10 @@ ghost use Rattle.std.specs.Prelude.{◌≡◌, ◌+◌, ◌<◌, ◌≤◌, [], 
 ghost use Rattle.image.specs.Cursor.{Reads, Stands, stored_at};
 ghost use Rattle.image.specs.Strip.{meant};
 
-use super::stored::{Stored, stored_by};
+use super::scan::size;
+use super::stored::stored_by;
 use super::word::word_at;
+use deck::Kind;
 
 // A block of a reel, both counted from 0, or the end of the reel; and where it lies in the strip.
 #[derive(Clone, Copy)]
@@ -15,13 +17,10 @@ pub struct Cursor {
 }
 
 // The block whose kind word lies at a place, if a kind word does.
-pub(crate) fn block_at(bytes: &[u8], at: usize) -> Option<Stored>
+pub(crate) fn block_at(bytes: &[u8], at: usize) -> Option<Kind<usize>>
     ensures { result ≡ stored_at bytes.now at }
 {
-    match word_at(bytes, at) {
-        Some(word) => stored_by(word),
-        None => None,
-    }
+    stored_by(word_at(bytes, at)?)
 }
 
 // Over the block that the cursor is on.
@@ -37,7 +36,7 @@ fn on(bytes: &[u8], c: Cursor) -> Cursor
     Cursor {
         reel: c.reel,
         block: c.block + 1,
-        at: c.at + block.size(),
+        at: c.at + size(block),
     }
 }
 
@@ -54,7 +53,7 @@ fn back(bytes: &[u8], c: Cursor) -> Cursor
     Cursor {
         reel: c.reel,
         block: c.block - 1,
-        at: c.at - block.size(),
+        at: c.at - size(block),
     }
 }
 

@@ -4,9 +4,9 @@ ghost use Rattle.image.specs.Stored.{numbered, Short};
 ghost use Rattle.image.specs.Strip.{next, check_closed};
 
 use super::refusal::{Cause, Refusal, refused};
-use super::stored::{Stored, stored_by};
+use super::stored::stored_by;
 use super::word::word_at;
-use deck::{MOST_BLOCKS, MOST_REELS};
+use deck::{Kind, MOST_BLOCKS, MOST_REELS};
 
 // The word behind a reel's last block.
 pub const REEL_END: u32 = 4294967294;
@@ -16,16 +16,16 @@ pub const REEL_END: u32 = 4294967294;
 pub enum Next {
     Finished,
     ReelEnds,
-    Holds(Stored),
+    Holds(Kind<usize>),
 }
 
 // Whether a record's bytes and its closing word fit, and whether that word is equal.
-fn closed(bytes: &[u8], at: usize, block: Stored) -> Result<Next, Refusal>
+fn closed(bytes: &[u8], at: usize, block: Kind<usize>) -> Result<Next, Refusal>
     requires within { at ≤ length bytes.now }
     requires short { Short block }
     ensures { numbered result ≡ check_closed at block (drop at bytes.now) }
 {
-    let Stored::Record(length) = block else {
+    let Kind::Record(length) = block else {
         return Ok(Next::Holds(block));
     };
     let closing = at + (length + 4);

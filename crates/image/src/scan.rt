@@ -7,19 +7,17 @@ ghost use Rattle.image.specs.Strip.{verdict, size};
 use super::chart::Chart;
 use super::next::{Next, next_word};
 use super::refusal::Refusal;
-use super::stored::Stored;
+use deck::Kind;
 
-impl Stored {
-    // How many bytes of a strip the block takes.
-    pub(crate) fn size(self) -> usize
-        requires { Short self }
-        ensures { result ≡ size self }
-    {
-        match self {
-            Stored::Record(length) => length + 8,
-            Stored::Mark => 4,
-            Stored::Bad => 4,
-        }
+// How many bytes of a strip the block takes.
+pub(crate) fn size(block: Kind<usize>) -> usize
+    requires { Short block }
+    ensures { result ≡ size block }
+{
+    match block {
+        Kind::Record(length) => length + 8,
+        Kind::Mark => 4,
+        Kind::Bad => 4,
     }
 }
 
@@ -39,7 +37,7 @@ pub(crate) fn scan(bytes: &[u8]) -> Result<Chart, Refusal>
                 blocks = 0;
             }
             Next::Holds(block) => {
-                at += block.size();
+                at += size(block);
                 blocks += 1;
             }
         }

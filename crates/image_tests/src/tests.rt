@@ -115,7 +115,7 @@ fn nine_reels(rt: HostRuntime) -> Result<(), Fail> {
     let ends = [4294967294; 9];
     let mut strip = opened(Strip::open(spelt(heap, &ends, b"")?))?;
     assert_eq!(rt; strip.reels(), 9);
-    assert_eq!(rt; strip.kind(9, 1), Kind::Absent);
+    assert_eq!(rt; strip.kind(9, 1), None);
     let more = spelt(heap, &ends, b"\0")?;
     let given = more.clone()?;
     refused(&rt, Strip::open(more), given.as_slice(), 3, 36)?;
@@ -150,15 +150,15 @@ fn index_of_marks(heap: Global, marks: u32) -> Result<Vec<u8>, AllocError>
 fn most_blocks(rt: HostRuntime) -> Result<(), Fail> {
     let heap = rt.alloc();
     let mut strip = opened(Strip::open(strip_of_marks(heap, 65535)?))?;
-    assert_eq!(rt; strip.kind(1, 65535), Kind::Mark);
-    assert_eq!(rt; strip.kind(1, 65536), Kind::Absent);
-    assert_eq!(rt; strip.kind(1, 1), Kind::Mark);
+    assert_eq!(rt; strip.kind(1, 65535), Some(Kind::Mark));
+    assert_eq!(rt; strip.kind(1, 65536), None);
+    assert_eq!(rt; strip.kind(1, 1), Some(Kind::Mark));
     let long = strip_of_marks(heap, 65536)?;
     let given = long.clone()?;
     refused(&rt, Strip::open(long), given.as_slice(), 3, 262140)?;
     let mut indexed = opened(Indexed::open(index_of_marks(heap, 65535)?))?;
-    assert_eq!(rt; indexed.kind(1, 65535), Kind::Mark);
-    assert_eq!(rt; indexed.kind(1, 65536), Kind::Absent);
+    assert_eq!(rt; indexed.kind(1, 65535), Some(Kind::Mark));
+    assert_eq!(rt; indexed.kind(1, 65536), None);
     let many = index_of_marks(heap, 65536)?;
     let again = many.clone()?;
     refused(&rt, Indexed::open(many), again.as_slice(), 3, 4)
@@ -180,21 +180,21 @@ fn indexed(heap: Global) -> Result<Indexed, Fail> {
 
 // What a deck answers of each place of that set, and a buffer of eight dashes after a fetch.
 fn answers<D: Deck>(rt: &impl Abort, deck: &mut D) {
-    let places: [(u32, u32, Kind, &[u8; 8]); 14] = [
-        (1, 1, Kind::Record(3), b"abc-----"),
-        (1, 2, Kind::Mark, b"--------"),
-        (1, 3, Kind::Bad, b"--------"),
-        (1, 4, Kind::Absent, b"--------"),
-        (2, 1, Kind::Absent, b"--------"),
-        (3, 1, Kind::Record(1), b"z-------"),
-        (3, 2, Kind::Record(5), b"hello---"),
-        (3, 3, Kind::Mark, b"--------"),
-        (3, 4, Kind::Absent, b"--------"),
-        (4, 1, Kind::Absent, b"--------"),
-        (0, 1, Kind::Absent, b"--------"),
-        (1, 0, Kind::Absent, b"--------"),
-        (0, 0, Kind::Absent, b"--------"),
-        (4294967295, 4294967295, Kind::Absent, b"--------"),
+    let places: [(u32, u32, Option<Kind<usize>>, &[u8; 8]); 14] = [
+        (1, 1, Some(Kind::Record(3)), b"abc-----"),
+        (1, 2, Some(Kind::Mark), b"--------"),
+        (1, 3, Some(Kind::Bad), b"--------"),
+        (1, 4, None, b"--------"),
+        (2, 1, None, b"--------"),
+        (3, 1, Some(Kind::Record(1)), b"z-------"),
+        (3, 2, Some(Kind::Record(5)), b"hello---"),
+        (3, 3, Some(Kind::Mark), b"--------"),
+        (3, 4, None, b"--------"),
+        (4, 1, None, b"--------"),
+        (0, 1, None, b"--------"),
+        (1, 0, None, b"--------"),
+        (0, 0, None, b"--------"),
+        (4294967295, 4294967295, None, b"--------"),
     ];
     assert_eq!(rt; deck.reels(), 3);
     for (reel, block, kind, after) in places {
@@ -207,11 +207,11 @@ fn answers<D: Deck>(rt: &impl Abort, deck: &mut D) {
 
 // A fetch of the first record, of three bytes, into buffers of lengths around it.
 fn rooms<D: Deck>(rt: &impl Abort, deck: &mut D) {
-    let cases: [(usize, Result<Kind, Short>, &[u8; 4]); 4] = [
+    let cases: [(usize, Result<Option<Kind<usize>>, Short>, &[u8; 4]); 4] = [
         (0, Err(Short), b"----"),
         (2, Err(Short), b"----"),
-        (3, Ok(Kind::Record(3)), b"abc-"),
-        (4, Ok(Kind::Record(3)), b"abc-"),
+        (3, Ok(Some(Kind::Record(3))), b"abc-"),
+        (4, Ok(Some(Kind::Record(3))), b"abc-"),
     ];
     for (room, answer, after) in cases {
         let mut buffer = *b"----";
@@ -290,10 +290,10 @@ fn either_way(rt: HostRuntime) -> Result<(), Fail> {
 // The longest record, and a buffer one byte too short for it.
 fn longest<D: Deck>(rt: &impl Abort, deck: &mut D) {
     let mut buffer = [1; 5388];
-    assert_eq!(rt; deck.kind(1, 1), Kind::Record(5388));
+    assert_eq!(rt; deck.kind(1, 1), Some(Kind::Record(5388)));
     assert_eq!(rt; deck.fetch(1, 1, &mut buffer[0..5387]), Err(Short));
     assert!(rt; buffer == [1; 5388]);
-    assert_eq!(rt; deck.fetch(1, 1, &mut buffer), Ok(Kind::Record(5388)));
+    assert_eq!(rt; deck.fetch(1, 1, &mut buffer), Ok(Some(Kind::Record(5388))));
     assert!(rt; buffer == [7; 5388]);
 }
 
@@ -313,9 +313,9 @@ fn longest_record(rt: HostRuntime) -> Result<(), Fail> {
 fn overlapping(rt: HostRuntime) -> Result<(), Fail> {
     let mut indexed = opened(Indexed::open(spelt(rt.alloc(), &[1, 2, 25, 3, 26, 3], b"-abcd-")?))?;
     let mut buffer = *b"----";
-    assert_eq!(rt; indexed.fetch(1, 2, &mut buffer), Ok(Kind::Record(3)));
+    assert_eq!(rt; indexed.fetch(1, 2, &mut buffer), Ok(Some(Kind::Record(3))));
     assert_eq!(rt; buffer, *b"bcd-");
-    assert_eq!(rt; indexed.fetch(1, 1, &mut buffer), Ok(Kind::Record(3)));
+    assert_eq!(rt; indexed.fetch(1, 1, &mut buffer), Ok(Some(Kind::Record(3))));
     assert_eq!(rt; buffer, *b"abc-");
     Ok(())
 }

@@ -1,6 +1,9 @@
 -- The survey's machine, as a decision table: what it expects and what comes give the machine afterwards, or the number of a fault.
 use Rattle.std.specs.Prelude.{◌≡◌, ℕ, ◌+◌, ◌-◌, ◌*◌, ◌%◌, ◌≤◌, Bool, true, false, cond, not, ◌&&◌, ◌||◌, List, [], ◌∷◌, length, drop, replicate, Some, None, Ok, Err, Option, Result, ◌==◌, nat_le, nat_lt, slice_index_or, slice_set}
+use Rattle.std.specs.Borrow.{Bor}
 use Rattle.deck.specs.Tape.{Block, written, mark, bad}
+use Rattle.deck.specs.declared.Kind.{Kind}
+use Rattle.deck.specs.declared.Kind.TheVariants as kinds
 use Rattle.records.specs.Bands.{present, more_bands}
 use Rattle.records.specs.Directories.{first_directory, same_directory}
 use Rattle.records.specs.Faults.{deck_number, set_number, number}
@@ -24,8 +27,6 @@ use Rattle.machine.specs.declared.machine.Machine.{Machine}
 use Rattle.machine.specs.declared.machine.Onward.{Onward}
 use Rattle.machine.specs.declared.machine.Onward.TheVariants as onwards
 use Rattle.machine.specs.declared.machine.Place.{Place}
-use Rattle.machine.specs.declared.machine.Seen.{Seen}
-use Rattle.machine.specs.declared.machine.Seen.TheVariants as seens
 
 -- The machine with another expectation, with a first directory, with another group, and with its group among those that have been read.
 abbrev pub expecting : Machine → Expect → Machine
@@ -60,11 +61,12 @@ abbrev pub set_stepped : Result (Unit {0}) SetFault → Machine → Result Machi
 set_stepped (Ok u) m = Ok m
 set_stepped (Err f) m = Err (set_number f)
 
-abbrev pub block_of : Seen → Option Block
-block_of (seens.Record r) = Some (written r.now)
-block_of seens.Mark = Some mark
-block_of seens.Bad = Some bad
-block_of seens.Absent = None
+-- The block that a deck has shown, if it has shown one.
+abbrev pub block_of : Option (Kind (Bor (List ℕ))) → Option Block
+block_of None = None
+block_of (Some (kinds.Record r)) = Some (written r.now)
+block_of (Some kinds.Mark) = Some mark
+block_of (Some kinds.Bad) = Some bad
 
 -- The faults of the deck's layer and of the record layer, where a block is not expected.
 abbrev pub decked : Result (Unit {0}) DeckFault → Option ℕ

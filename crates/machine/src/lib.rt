@@ -7,4 +7,4 @@ mod machine;
 mod step;
 
 pub use accepted::{Accepted, Places, Summary};
-pub use machine::{Expect, Group, Machine, Onward, Place, Seen};
+pub use machine::{Expect, Group, Machine, Onward, Place};

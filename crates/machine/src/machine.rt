@@ -72,12 +72,3 @@ pub struct Machine {
     // the bands that their headers name
     pub bands: Bands,
 }
-
-// What came: a record, a mark, a bad block, or none.
-#[derive(Clone, Copy)]
-pub enum Seen<'a> {
-    Record(&'a [u8]),
-    Mark,
-    Bad,
-    Absent,
-}

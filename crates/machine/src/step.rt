@@ -4,7 +4,8 @@ ghost use Rattle.records.specs.Directories.{first_directory};
 ghost use Rattle.records.specs.Records.{recorded};
 ghost use Rattle.machine.specs.Machines.{Steady, stepped, set_stepped, block_of, decked, deck_says, record_says, refusal, unexpected, first, later, on_directory, on_header, on_attribute, next_group, ends_in_image, ends_behind_trailer, expecting, closed, step};
 
-use super::machine::{Expect, Group, Machine, Onward, Place, Seen};
+use super::machine::{Expect, Group, Machine, Onward, Place};
+use deck::Kind;
 use records::{
     ANCILLARY, ANNOTATION, Cause, Content, DIRECTORY, DIRECTORY_LENGTH, DeckFault, Form, HEADER,
     RecordFault, SetFault, check, first_directory, read_header, same_directory,
@@ -155,45 +156,47 @@ impl Machine {
     }
 
     // Takes the block that came by what was expected, and expects the next.
-    pub fn step(&mut self, at: Place, seen: Seen) -> Result<(), Cause>
+    pub fn step(&mut self, at: Place, seen: Option<Kind<&[u8]>>) -> Result<(), Cause>
         ensures says { stepped result self.new ≡ step self.old at (block_of seen.entry) }
         ensures stays_steady { Steady self.old → OnOk result (Steady self.new) }
     {
         match (self.expect, seen) {
-            (Expect::Directory(onward), Seen::Record(bytes)) => self.directory(at, bytes, onward),
+            (Expect::Directory(onward), Some(Kind::Record(bytes))) => self.directory(
+                at, bytes, onward,
+            ),
             (Expect::Directory(_), other) => unexpected(other),
-            (Expect::DirectoryMark(Onward::Image), Seen::Mark) => self.turn(Expect::Resumed),
-            (Expect::DirectoryMark(_), Seen::Mark) => self.turn(Expect::Header),
+            (Expect::DirectoryMark(Onward::Image), Some(Kind::Mark)) => self.turn(Expect::Resumed),
+            (Expect::DirectoryMark(_), Some(Kind::Mark)) => self.turn(Expect::Header),
             (Expect::DirectoryMark(_), other) => unexpected(other),
-            (Expect::Header, Seen::Record(bytes)) => self.header(at, bytes),
+            (Expect::Header, Some(Kind::Record(bytes))) => self.header(at, bytes),
             (Expect::Header, other) => unexpected(other),
-            (Expect::Attribute(number), Seen::Record(bytes)) => self.attribute(number, bytes),
+            (Expect::Attribute(number), Some(Kind::Record(bytes))) => self.attribute(number, bytes),
             (Expect::Attribute(_), other) => unexpected(other),
-            (Expect::AttributeMark, Seen::Mark) => self.turn(Expect::FirstImage),
+            (Expect::AttributeMark, Some(Kind::Mark)) => self.turn(Expect::FirstImage),
             (Expect::AttributeMark, other) => unexpected(other),
-            (Expect::FirstImage, Seen::Record(bytes)) => self.image(at, bytes),
-            (Expect::FirstImage, Seen::Bad) => self.bad_line(at),
+            (Expect::FirstImage, Some(Kind::Record(bytes))) => self.image(at, bytes),
+            (Expect::FirstImage, Some(Kind::Bad)) => self.bad_line(at),
             (Expect::FirstImage, other) => unexpected(other),
-            (Expect::Image, Seen::Record(bytes)) => self.image(at, bytes),
-            (Expect::Image, Seen::Bad) => self.bad_line(at),
-            (Expect::Image, Seen::Mark) => self.turn(Expect::BehindImage),
+            (Expect::Image, Some(Kind::Record(bytes))) => self.image(at, bytes),
+            (Expect::Image, Some(Kind::Bad)) => self.bad_line(at),
+            (Expect::Image, Some(Kind::Mark)) => self.turn(Expect::BehindImage),
             (Expect::Image, other) => unexpected(other),
-            (Expect::BehindImage, Seen::Record(bytes)) => self.first_trailer(at, bytes),
-            (Expect::BehindImage, Seen::Mark) => Ok(self.end_in_image(at)?),
+            (Expect::BehindImage, Some(Kind::Record(bytes))) => self.first_trailer(at, bytes),
+            (Expect::BehindImage, Some(Kind::Mark)) => Ok(self.end_in_image(at)?),
             (Expect::BehindImage, other) => unexpected(other),
-            (Expect::Resumed, Seen::Record(bytes)) => self.resumed(at, bytes),
-            (Expect::Resumed, Seen::Bad) => self.bad_line(at),
+            (Expect::Resumed, Some(Kind::Record(bytes))) => self.resumed(at, bytes),
+            (Expect::Resumed, Some(Kind::Bad)) => self.bad_line(at),
             (Expect::Resumed, other) => unexpected(other),
-            (Expect::Trailer(number), Seen::Record(bytes)) => self.trailer(number, bytes),
+            (Expect::Trailer(number), Some(Kind::Record(bytes))) => self.trailer(number, bytes),
             (Expect::Trailer(_), other) => unexpected(other),
-            (Expect::TrailerMark, Seen::Mark) => self.close_group(),
+            (Expect::TrailerMark, Some(Kind::Mark)) => self.close_group(),
             (Expect::TrailerMark, other) => unexpected(other),
-            (Expect::BehindTrailer, Seen::Record(bytes)) => self.next_group(at, bytes),
-            (Expect::BehindTrailer, Seen::Mark) => Ok(self.end_behind_trailer(at)?),
+            (Expect::BehindTrailer, Some(Kind::Record(bytes))) => self.next_group(at, bytes),
+            (Expect::BehindTrailer, Some(Kind::Mark)) => Ok(self.end_behind_trailer(at)?),
             (Expect::BehindTrailer, other) => unexpected(other),
-            (Expect::LastMark, Seen::Mark) => self.turn(Expect::End(Onward::Nothing)),
+            (Expect::LastMark, Some(Kind::Mark)) => self.turn(Expect::End(Onward::Nothing)),
             (Expect::LastMark, other) => unexpected(other),
-            (Expect::End(onward), Seen::Absent) => self.turn(Expect::Directory(onward)),
+            (Expect::End(onward), None) => self.turn(Expect::Directory(onward)),
             (Expect::End(_), _) => Err(Cause::Set(SetFault::BehindEnd)),
         }
     }
@@ -208,31 +211,31 @@ impl Machine {
 }
 
 // A block that the deck should not show there.
-fn deck_layer(seen: Seen) -> Result<(), DeckFault>
+fn deck_layer(seen: Option<Kind<&[u8]>>) -> Result<(), DeckFault>
     ensures { decked result ≡ deck_says (block_of seen.entry) }
 {
     match seen {
-        Seen::Absent => Err(DeckFault::Absent),
-        Seen::Bad => Err(DeckFault::Bad),
-        Seen::Mark => Ok(()),
-        Seen::Record(_) => Ok(()),
+        None => Err(DeckFault::Absent),
+        Some(Kind::Bad) => Err(DeckFault::Bad),
+        Some(Kind::Mark) => Ok(()),
+        Some(Kind::Record(_)) => Ok(()),
     }
 }
 
 // A mark for a record, or a record for a mark.
-fn record_layer(seen: Seen) -> Result<(), RecordFault>
+fn record_layer(seen: Option<Kind<&[u8]>>) -> Result<(), RecordFault>
     ensures { recorded result ≡ record_says (block_of seen.entry) }
 {
     match seen {
-        Seen::Record(_) => Err(RecordFault::RecordForMark),
-        Seen::Mark => Err(RecordFault::MarkForRecord),
-        Seen::Bad => Ok(()),
-        Seen::Absent => Ok(()),
+        Some(Kind::Record(_)) => Err(RecordFault::RecordForMark),
+        Some(Kind::Mark) => Err(RecordFault::MarkForRecord),
+        Some(Kind::Bad) => Ok(()),
+        None => Ok(()),
     }
 }
 
 // A block that is not expected, by the layer that it is a fault of.
-fn unexpected(seen: Seen) -> Result<(), Cause>
+fn unexpected(seen: Option<Kind<&[u8]>>) -> Result<(), Cause>
     ensures { refusal result ≡ unexpected (block_of seen.entry) }
 {
     deck_layer(seen)?;

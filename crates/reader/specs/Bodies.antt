@@ -1,7 +1,9 @@
 -- What a call delivers, from the set on the deck and what the reader remembers.
 use Rattle.std.specs.Prelude.{ℕ, ◌+◌, ◌-◌, cond, ◌&&◌, List, ◌++◌, length, drop, Some, None, Ok, Err, Option, Result, ◌==◌, nat_le, nat_lt}
 use Rattle.deck.specs.Tape.{Block, written, mark, bad, TapeSet, from_one, look}
+use Rattle.records.specs.Bands.{no_bands}
 use Rattle.records.specs.Layouts.{sensor_in, record_length}
+use Rattle.records.specs.declared.bands.Bands.{Bands}
 use Rattle.machine.specs.declared.accepted.Accepted.{Accepted}
 use Rattle.survey.specs.Surveys.{Fault}
 use Rattle.reader.specs.Finding.{codes, band_file, line_spot, sheet_spot}
@@ -22,6 +24,17 @@ body_of size None = Err 46
 body_of size (Some (written xs)) = cond (length xs == size) (Ok (drop 6 xs)) (Err 46)
 body_of size (Some mark) = Err 46
 body_of size (Some bad) = Err 46
+
+-- The block at a spot, and the length of a record.
+abbrev pub shown_at : TapeSet → Option Spot → Option Block
+shown_at set None = None
+shown_at set (Some s) = look set s.reel s.block
+
+abbrev pub length_of : Option Block → Option ℕ
+length_of None = None
+length_of (Some (written xs)) = Some (length xs)
+length_of (Some mark) = None
+length_of (Some bad) = None
 
 abbrev pub body_at : TapeSet → Option Spot → ℕ → Delivery
 body_at set None size = Err 46
@@ -84,6 +97,11 @@ code_of (Some c) = Ok c
 abbrev pub band_answer : Option Accepted → ℕ → Result ℕ Fault
 band_answer None k = Err (caller 41)
 band_answer (Some a) k = code_of (from_one (codes a) k)
+
+-- The bands present: none where nothing is accepted.
+abbrev pub bands_of : Option Accepted → Bands
+bands_of None = no_bands
+bands_of (Some a) = a.summary.bands
 
 -- What a survey answers: sensor, mission, correction, the number of bands present, and the lines of each.
 abbrev pub outline : Accepted → Outline

@@ -1,40 +1,48 @@
 // The body of a record, from the deck into a caller's buffer.
 ghost use Rattle.std.specs.Prelude.{◌≡◌, ◌+◌, ◌≤◌, length};
-ghost use Rattle.reader.specs.Bodies.{body_at, told_delivery, buffer_after, told_caller};
+ghost use Rattle.deck.specs.Answers.{filled};
+ghost use Rattle.reader.specs.Bodies.{shown_at, length_of, body_at, told_delivery, buffer_after, told_caller};
 
 use super::places::Spot;
 use super::refusal::CallerFault;
-use deck::{Deck, Kind};
+use deck::{Deck, Kind, LONGEST_RECORD};
+
+// Puts the record at a spot into the scratch buffer and answers its length, if there is a record.
+fn record_at<D: Deck>(
+    deck: &mut D,
+    spot: Option<Spot>,
+    scratch: &mut [u8; LONGEST_RECORD],
+) -> Option<usize>
+    ensures stays { D.meaning deck.new ≡ D.meaning deck.old }
+    ensures says { result ≡ length_of (shown_at (D.meaning deck.old) spot) }
+    ensures bytes { scratch.new ≡ filled (shown_at (D.meaning deck.old) spot) scratch.old }
+{
+    let spot = spot?;
+    let block = u32::try_from(spot.block).ok()?;
+    match deck.fetch(spot.reel, block, scratch).ok()? {
+        Some(Kind::Record(length)) => Some(length),
+        _ => None,
+    }
+}
 
 // Puts the body of the record at a spot at the front of the buffer.
 pub(crate) fn body<D: Deck>(
     deck: &mut D,
     spot: Option<Spot>,
     size: usize,
-    scratch: &mut [u8],
+    scratch: &mut [u8; LONGEST_RECORD],
     buffer: &mut [u8],
 ) -> Result<usize, CallerFault>
     requires large { (6 ≤ size) × (size ≤ 5388) }
-    requires room { (length scratch.old ≡ 5388) × (size ≤ length buffer.old + 6) }
+    requires room { size ≤ length buffer.old + 6 }
     ensures stays { D.meaning deck.new ≡ D.meaning deck.old }
     ensures says { told_caller result ≡ told_delivery (body_at (D.meaning deck.old) spot size) }
     ensures writes { buffer.new ≡ buffer_after (body_at (D.meaning deck.old) spot size) buffer.old }
 {
-    let Some(spot) = spot else {
-        return Err(CallerFault::Unreadable);
-    };
-    let Ok(block) = u32::try_from(spot.block) else {
-        return Err(CallerFault::Unreadable);
-    };
-    let Ok(kind) = deck.fetch(spot.reel, block, scratch) else {
-        return Err(CallerFault::Unreadable);
-    };
-    let Kind::Record(length) = kind else {
-        return Err(CallerFault::Unreadable);
-    };
+    let length = record_at(deck, spot, scratch).ok_or(CallerFault::Unreadable)?;
     if length != size {
         return Err(CallerFault::Unreadable);
     }
-    buffer[0..size - 6].copy_from_slice(&scratch[6..size]);
+    buffer[..size - 6].copy_from_slice(&scratch[6..size]);
     Ok(size - 6)
 }

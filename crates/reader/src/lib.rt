@@ -10,5 +10,5 @@ mod refusal;
 
 pub use call::{Answer, Call, Outline};
 pub use places::{BandFile, Spot, band_file, codes, line_spot};
-pub use reading::Reader;
-pub use refusal::{CallerFault, Refusal};
+pub use reading::{LONGEST_BODY, Reader};
+pub use refusal::{CallerFault, Refusal, Report};

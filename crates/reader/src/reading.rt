@@ -2,7 +2,7 @@
 ghost use Rattle.std.specs.Prelude.{◌≡◌, ◌≤◌, length, IfOk, None};
 ghost use Rattle.deck.specs.Tape.{from_one};
 ghost use Rattle.survey.specs.Surveys.{surveyed};
-ghost use Rattle.reader.specs.Bodies.{told, told_delivery, buffer_after, line_answer, sheet_answer, ident_answer, band_answer, survey_answer, accepted_by, outline, raised};
+ghost use Rattle.reader.specs.Bodies.{told, told_delivery, buffer_after, line_answer, sheet_answer, ident_answer, band_answer, survey_answer, accepted_by, bands_of, outline, raised};
 
 use super::body::body;
 use super::call::Outline;
@@ -10,7 +10,11 @@ use super::places::{band_file, codes, line_spot, sheet_spot};
 use super::refusal::{CallerFault, Refusal};
 use deck::{Deck, LONGEST_RECORD};
 use machine::Accepted;
+use records::Bands;
 use survey::survey;
+
+// The longest body of a record, in bytes: a buffer of this length takes the body of any line or sheet.
+pub const LONGEST_BODY: usize = LONGEST_RECORD - 6;
 
 // The most lines that a tally counts: it stands still there.
 pub const MOST_TALLIED: u64 = 9223372036854775807;
@@ -64,15 +68,18 @@ impl<D: Deck> Reader<D> {
         ensures remembers { (self.new.accepted ≡ accepted_by (surveyed (D.meaning self.old.deck))) × (self.new.tally ≡ self.old.tally) }
         ensures few { IfOk result (λ o. o.bands ≤ 5) }
     {
-        match survey(&mut self.deck) {
-            Ok(accepted) => {
-                self.accepted = Some(accepted);
-                Ok(outline(&accepted))
-            }
-            Err(fault) => {
-                self.accepted = None;
-                Err(Refusal::Tape(fault))
-            }
+        let surveyed = survey(&mut self.deck);
+        self.accepted = surveyed.ok();
+        Ok(outline(&surveyed?))
+    }
+
+    // The bands that are present: none where no survey has accepted the set.
+    pub fn bands(&self) -> Bands
+        ensures { result ≡ bands_of self.now.accepted }
+    {
+        match self.accepted {
+            Some(accepted) => accepted.summary.bands,
+            None => Bands::new(),
         }
     }
 
@@ -81,12 +88,9 @@ impl<D: Deck> Reader<D> {
         ensures { told result ≡ band_answer self.now.accepted k }
     {
         let Some(accepted) = self.accepted else {
-            return Err(Refusal::Caller(CallerFault::NotAccepted));
+            return Err(CallerFault::NotAccepted.into());
         };
-        match code_at(codes(&accepted.summary.bands), k) {
-            Some(code) => Ok(code),
-            None => Err(Refusal::Caller(CallerFault::Band)),
-        }
+        Ok(code_at(codes(&accepted.summary.bands), k).ok_or(CallerFault::Band)?)
     }
 
     // Puts the scene identification into a buffer.
@@ -95,10 +99,10 @@ impl<D: Deck> Reader<D> {
         ensures writes { buffer.new ≡ buffer_after (ident_answer self.now.accepted (length buffer.old)) buffer.old }
     {
         let Some(accepted) = self.accepted else {
-            return Err(Refusal::Caller(CallerFault::NotAccepted));
+            return Err(CallerFault::NotAccepted.into());
         };
         if buffer.len() < 18 {
-            return Err(Refusal::Caller(CallerFault::Buffer));
+            return Err(CallerFault::Buffer.into());
         }
         buffer[0..18].copy_from_slice(&accepted.summary.ident);
         Ok(18)
@@ -112,34 +116,28 @@ impl<D: Deck> Reader<D> {
         ensures remembers { (self.new.accepted ≡ self.old.accepted) × (self.new.tally ≡ raised (line_answer (D.meaning self.old.deck) self.old.accepted band line (length buffer.old)) self.old.tally) }
     {
         let Some(accepted) = self.accepted else {
-            return Err(Refusal::Caller(CallerFault::NotAccepted));
+            return Err(CallerFault::NotAccepted.into());
         };
-        let Some(file) = band_file(&accepted, band) else {
-            return Err(Refusal::Caller(CallerFault::Band));
-        };
+        let file = band_file(&accepted, band).ok_or(CallerFault::Band)?;
         if line < 1 || accepted.summary.lines < line {
-            return Err(Refusal::Caller(CallerFault::Line));
+            return Err(CallerFault::Line.into());
         }
         let layout = accepted.summary.layout;
         let size = layout.form.record_length();
         if buffer.len() < size - 6 {
-            return Err(Refusal::Caller(CallerFault::Buffer));
+            return Err(CallerFault::Buffer.into());
         }
-        match body(
+        let length = body(
             &mut self.deck,
             line_spot(&file, layout, line),
             size,
             &mut self.scratch,
             buffer,
-        ) {
-            Ok(length) => {
-                if self.tally < MOST_TALLIED {
-                    self.tally += 1;
-                }
-                Ok(length)
-            }
-            Err(fault) => Err(Refusal::Caller(fault)),
+        )?;
+        if self.tally < MOST_TALLIED {
+            self.tally += 1;
         }
+        Ok(length)
     }
 
     // Puts the body of a sheet of a band into a buffer: kind 1 the header, 2 an ancillary, 3 an annotation, 4 a trailer record.
@@ -156,23 +154,16 @@ impl<D: Deck> Reader<D> {
         ensures remembers { (self.new.accepted ≡ self.old.accepted) × (self.new.tally ≡ self.old.tally) }
     {
         let Some(accepted) = self.accepted else {
-            return Err(Refusal::Caller(CallerFault::NotAccepted));
+            return Err(CallerFault::NotAccepted.into());
         };
-        let Some(file) = band_file(&accepted, band) else {
-            return Err(Refusal::Caller(CallerFault::Band));
-        };
+        let file = band_file(&accepted, band).ok_or(CallerFault::Band)?;
         let layout = accepted.summary.layout;
-        let Some(spot) = sheet_spot(&file.group, layout, kind, index) else {
-            return Err(Refusal::Caller(CallerFault::Sheet));
-        };
+        let spot = sheet_spot(&file.group, layout, kind, index).ok_or(CallerFault::Sheet)?;
         let size = layout.form.record_length();
         if buffer.len() < size - 6 {
-            return Err(Refusal::Caller(CallerFault::Buffer));
+            return Err(CallerFault::Buffer.into());
         }
-        match body(&mut self.deck, Some(spot), size, &mut self.scratch, buffer) {
-            Ok(length) => Ok(length),
-            Err(fault) => Err(Refusal::Caller(fault)),
-        }
+        Ok(body(&mut self.deck, Some(spot), size, &mut self.scratch, buffer)?)
     }
 }
 
@@ -180,11 +171,7 @@ impl<D: Deck> Reader<D> {
 fn code_at(codes: &[u8], k: u32) -> Option<u8>
     ensures { result ≡ from_one codes.now k }
 {
-    let k = k as usize;
-    if k == 0 || k > codes.len() {
-        return None;
-    }
-    Some(codes[k - 1])
+    codes.get((k as usize).checked_sub(1)?).copied()
 }
 
 fn outline(accepted: &Accepted) -> Outline

@@ -1,6 +1,7 @@
 // Why a call is refused.
 ghost use Rattle.std.specs.Prelude.{◌≡◌};
-ghost use Rattle.reader.specs.Refusals.{caller_number};
+ghost use Rattle.reader.specs.Refusals.{caller_number, told_refusal};
+ghost use Rattle.reader.specs.declared.refusal.Refusal.TheVariants.{Tape, Caller};
 
 use survey::TapeFault;
 
@@ -42,4 +43,50 @@ impl CallerFault {
 pub enum Refusal {
     Tape(TapeFault),
     Caller(CallerFault),
+}
+
+impl From<TapeFault> for Refusal {
+    ghost from_gives = { λ f r. r ≡ Tape f };
+
+    fn from(fault: TapeFault) -> Refusal {
+        Refusal::Tape(fault)
+    }
+}
+
+impl From<CallerFault> for Refusal {
+    ghost from_gives = { λ f r. r ≡ Caller f };
+
+    fn from(fault: CallerFault) -> Refusal {
+        Refusal::Caller(fault)
+    }
+}
+
+// What a refused call returns: the refusal's number, and the layer, reel and block of a fault of the tape, which are 0 where the caller is at fault.
+#[derive(Clone, Copy, PartialEq, Eq, Debug)]
+pub struct Report {
+    pub number: u32,
+    pub layer: u32,
+    pub reel: u32,
+    pub block: u32,
+}
+
+impl Refusal {
+    pub fn report(self) -> Report
+        ensures { (result.number, result.layer, result.reel, result.block) ≡ told_refusal self }
+    {
+        match self {
+            Refusal::Tape(fault) => Report {
+                number: fault.cause.number(),
+                layer: fault.cause.layer(),
+                reel: fault.reel,
+                block: fault.block,
+            },
+            Refusal::Caller(fault) => Report {
+                number: fault.number(),
+                layer: 0,
+                reel: 0,
+                block: 0,
+            },
+        }
+    }
 }

@@ -1,5 +1,6 @@
 -- The numbers of a layout.
-use Rattle.std.specs.Prelude.{ℕ, ◌+◌, cond, ◌==◌}
+use Rattle.std.specs.Prelude.{ℕ, ◌+◌, cond, List, ◌==◌}
+use lib.Chars as chars
 use Rattle.records.specs.declared.layout.Correction.{Correction}
 use Rattle.records.specs.declared.layout.Correction.TheVariants.{Corrected, Uncorrected}
 use Rattle.records.specs.declared.layout.Form.{Form}
@@ -7,6 +8,15 @@ use Rattle.records.specs.declared.layout.Form.TheVariants.{Interleaved, Sequenti
 use Rattle.records.specs.declared.layout.Layout.{Layout}
 use Rattle.records.specs.declared.layout.Sensor.{Sensor}
 use Rattle.records.specs.declared.layout.Sensor.TheVariants.{Mss, Rbv}
+
+-- The letters by which a directory names the instrument and the correction.
+abbrev pub sensor_letter : Sensor → List ℕ
+sensor_letter Mss = chars.codes "M"
+sensor_letter Rbv = chars.codes "R"
+
+abbrev pub correction_letters : Correction → List ℕ
+correction_letters Corrected = chars.codes "CP"
+correction_letters Uncorrected = chars.codes "CA"
 
 abbrev pub sensor_in : Form → Sensor
 sensor_in Interleaved = Mss

@@ -1,12 +1,26 @@
 // What the first directory says of a set: which layout it follows.
-ghost use Rattle.std.specs.Prelude.{◌≡◌};
-ghost use Rattle.records.specs.Layouts.{sensor_in, record_length, order_byte, ancillaries, annotations, attributes, stride};
+ghost use Rattle.std.specs.Prelude.{◌≡◌, Some};
+ghost use Rattle.records.specs.Layouts.{sensor_letter, correction_letters, sensor_in, record_length, order_byte, ancillaries, annotations, attributes, stride};
+
+use std::fmt;
 
 // The instrument: the multispectral scanner or the return beam vidicon.
 #[derive(Clone, Copy, PartialEq, Eq, Debug)]
 pub enum Sensor {
     Mss,
     Rbv,
+}
+
+// The letter by which a directory names the instrument.
+impl fmt::Display for Sensor {
+    ghost output = { λ s. Some (sensor_letter s) };
+
+    fn fmt<W: fmt::Write>(&self, f: &mut fmt::Formatter<W>) -> fmt::Result {
+        match self {
+            Sensor::Mss => f.write_str("M"),
+            Sensor::Rbv => f.write_str("R"),
+        }
+    }
 }
 
 // Whose lines a set holds, and in which order: the scanner's with the bands interleaved line by line, the scanner's band after band, or
@@ -22,6 +36,30 @@ pub enum Form {
 pub enum Correction {
     Corrected,
     Uncorrected,
+}
+
+impl Correction {
+    // How many annotation records follow the ancillary records.
+    pub fn annotations(self) -> u32
+        ensures { result ≡ annotations self }
+    {
+        match self {
+            Correction::Corrected => 1,
+            Correction::Uncorrected => 2,
+        }
+    }
+}
+
+// The two letters by which a directory names the correction.
+impl fmt::Display for Correction {
+    ghost output = { λ c. Some (correction_letters c) };
+
+    fn fmt<W: fmt::Write>(&self, f: &mut fmt::Formatter<W>) -> fmt::Result {
+        match self {
+            Correction::Corrected => f.write_str("CP"),
+            Correction::Uncorrected => f.write_str("CA"),
+        }
+    }
 }
 
 #[derive(Clone, Copy, PartialEq, Eq, Debug)]
@@ -81,10 +119,7 @@ impl Layout {
     pub fn annotations(self) -> u32
         ensures { result ≡ annotations self.correction }
     {
-        match self.correction {
-            Correction::Corrected => 1,
-            Correction::Uncorrected => 2,
-        }
+        self.correction.annotations()
     }
 
     // How many records an attributes file has: the header and these.

@@ -1,5 +1,5 @@
 -- The survey of a set: its reels and blocks in order, until the first fault.
-use Rattle.std.specs.Prelude.{ℕ, ◌+◌, ◌/◌, ◌≤◌, Bool, true, false, List, [], ◌∷◌, length, take, Some, None, Ok, Err, Option, Result}
+use Rattle.std.specs.Prelude.{ℕ, ◌+◌, ◌/◌, ◌≤◌, List, [], ◌∷◌, length, take, Some, None, Ok, Err, Option, Result}
 use Rattle.deck.specs.Tape.{Block, written, mark, bad, Reel, TapeSet}
 use Rattle.deck.specs.declared.Kind.{Kind}
 use Rattle.deck.specs.declared.Kind.TheVariants as kinds
@@ -53,20 +53,15 @@ told_step (Ok x) m = Ok m
 told_step (Err f) m = Err (told_fault f)
 
 -- The block of a kind, where a record stands at the front of a buffer.
-abbrev pub shown_in : Kind → List ℕ → Option Block
-shown_in (kinds.Record n) xs = Some (written (take n xs))
-shown_in kinds.Mark xs = Some mark
-shown_in kinds.Bad xs = Some bad
-shown_in kinds.Absent xs = None
+abbrev pub shown_in : Option (Kind ℕ) → List ℕ → Option Block
+shown_in None xs = None
+shown_in (Some (kinds.Record n)) xs = Some (written (take n xs))
+shown_in (Some kinds.Mark) xs = Some mark
+shown_in (Some kinds.Bad) xs = Some bad
 
-abbrev pub there : Kind → Bool
-there (kinds.Record n) = true
-there kinds.Mark = true
-there kinds.Bad = true
-there kinds.Absent = false
-
-abbrev pub FitsIn : Kind → List ℕ → Type 0
-FitsIn (kinds.Record n) xs = n ≤ length xs
-FitsIn kinds.Mark xs = Unit {0}
-FitsIn kinds.Bad xs = Unit {0}
-FitsIn kinds.Absent xs = Unit {0}
+-- A record is no longer than the buffer.
+abbrev pub FitsIn : Option (Kind ℕ) → List ℕ → Type 0
+FitsIn None xs = Unit {0}
+FitsIn (Some (kinds.Record n)) xs = n ≤ length xs
+FitsIn (Some kinds.Mark) xs = Unit {0}
+FitsIn (Some kinds.Bad) xs = Unit {0}

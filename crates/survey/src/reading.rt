@@ -3,35 +3,22 @@ ghost use Rattle.std.specs.Prelude.{◌≡◌, ◌-◌, ◌≤◌, [], length, i
 ghost use Rattle.deck.specs.Tape.{look};
 ghost use Rattle.machine.specs.Machines.{Steady, block_of, step};
 ghost use Rattle.survey.specs.Laws.{Judged};
-ghost use Rattle.survey.specs.Surveys.{shown_in, there, FitsIn, told_step, placed, feed_reel, told, surveyed};
+ghost use Rattle.survey.specs.Surveys.{shown_in, FitsIn, told_step, placed, feed_reel, told, surveyed};
 
 use super::fault::TapeFault;
 use deck::{Deck, Kind, LONGEST_RECORD};
-use machine::{Accepted, Machine, Place, Seen};
+use machine::{Accepted, Machine, Place};
 
-// What a deck has shown, where a record stands at the front of the scratch buffer.
-fn seen_as(kind: Kind, scratch: &[u8]) -> Seen<'_>
+// What a deck has shown: of a record, its bytes, which stand at the front of the scratch buffer.
+fn seen_as(kind: Option<Kind<usize>>, scratch: &[u8]) -> Option<Kind<&[u8]>>
     requires { FitsIn kind scratch.now }
     ensures { block_of result ≡ shown_in kind scratch.now }
 {
-    match kind {
-        Kind::Record(length) => Seen::Record(&scratch[0..length]),
-        Kind::Mark => Seen::Mark,
-        Kind::Bad => Seen::Bad,
-        Kind::Absent => Seen::Absent,
-    }
-}
-
-// Whether a deck has shown a block.
-fn there(kind: Kind) -> bool
-    ensures { result ≡ there kind }
-{
-    match kind {
-        Kind::Record(_) => true,
-        Kind::Mark => true,
-        Kind::Bad => true,
-        Kind::Absent => false,
-    }
+    Some(match kind? {
+        Kind::Record(length) => Kind::Record(&scratch[..length]),
+        Kind::Mark => Kind::Mark,
+        Kind::Bad => Kind::Bad,
+    })
 }
 
 // Reads one block and hands it to the machine. Says whether there was one.
@@ -51,7 +38,7 @@ fn take<D: Deck>(
         return unreachable();
     };
     match machine.step(at, seen_as(kind, scratch)) {
-        Ok(()) => Ok(there(kind)),
+        Ok(()) => Ok(kind.is_some()),
         Err(cause) => Err(TapeFault {
             cause,
             reel: at.reel,

@@ -4,9 +4,9 @@ ghost use Rattle.image.specs.Indexed.{first_entry, header, passed, row, whole, r
 ghost use Rattle.image.specs.Stored.{numbered};
 
 use super::super::refusal::{Cause, Refusal, refused};
-use super::super::stored::{Stored, stored_by};
+use super::super::stored::stored_by;
 use super::super::word::word_at;
-use deck::{MOST_BLOCKS, MOST_REELS};
+use deck::{Kind, MOST_BLOCKS, MOST_REELS};
 
 // The word at a place, which is whole.
 fn whole_word(bytes: &[u8], at: usize) -> Result<u32, Refusal>
@@ -52,7 +52,7 @@ fn check_entry(bytes: &[u8], header: usize, at: usize) -> Result<(), Refusal>
     let kind = whole_word(bytes, at + 4)?;
     match stored_by(kind) {
         None => refused(Cause::IllegalWord, at + 4),
-        Some(Stored::Record(length)) => {
+        Some(Kind::Record(length)) => {
             if offset < header || bytes.len() < offset + length {
                 return refused(Cause::OutsideImage, at + 4);
             }

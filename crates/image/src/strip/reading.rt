@@ -1,13 +1,12 @@
 // The strip as a deck.
 ghost use Rattle.std.specs.Prelude.{◌≡◌, ◌<◌, length};
-ghost use Rattle.deck.specs.Answers.{kind_of};
 ghost use Rattle.deck.specs.Tape.{look};
 ghost use Rattle.image.specs.Cursor.{Stands};
-ghost use Rattle.image.specs.Found.{Inside, seen, shown_kind};
+ghost use Rattle.image.specs.Found.{found_if};
 ghost use Rattle.image.specs.Opened.{strip_set};
 
 use super::super::cursor::{Cursor, wind};
-use super::super::found::{Found, deliver, found_at};
+use super::super::found::{deliver, found_at, kind};
 use super::Strip;
 use deck::{Deck, Kind, Short};
 
@@ -27,27 +26,20 @@ impl Strip {
         }
     }
 
-    // Where a block lies, reel and block counted from 1. The cursor is left there.
-    fn find(&mut self, reel: u32, block: u32) -> Found
+    // Winds to a block, reel and block counted from 1, and answers where it lies, if there is such a block.
+    fn wind_to(&mut self, reel: u32, block: u32) -> Option<usize>
         ensures stays { self.new.bytes ≡ self.old.bytes }
-        ensures finds { seen self.old.bytes.items result ≡ look (strip_set self.old) reel block }
-        ensures shows { shown_kind result ≡ kind_of (look (strip_set self.old) reel block) }
-        ensures inside { Inside self.old.bytes.items result }
+        ensures finds { found_if self.old.bytes.items result ≡ look (strip_set self.old) reel block }
     {
-        if reel == 0 || block == 0 {
-            return Found::Absent;
+        let reel = reel.checked_sub(1)? as usize;
+        let block = block.checked_sub(1)?;
+        if reel >= self.chart.reels || block >= self.chart.counts[reel] {
+            return None;
         }
-        let on = reel as usize - 1;
-        if on >= self.chart.reels {
-            return Found::Absent;
-        }
-        if block > self.chart.counts[on] {
-            return Found::Absent;
-        }
-        let from = self.near(on);
-        let there = wind(self.bytes.as_slice(), from, block - 1);
+        let from = self.near(reel);
+        let there = wind(self.bytes.as_slice(), from, block);
         self.cursor = there;
-        found_at(self.bytes.as_slice(), there.at)
+        Some(there.at)
     }
 }
 
@@ -60,12 +52,20 @@ impl Deck for Strip {
         self.chart.reels as u32
     }
 
-    fn kind(&mut self, reel: u32, block: u32) -> Kind {
-        self.find(reel, block).kind()
+    fn kind(&mut self, reel: u32, block: u32) -> Option<Kind<usize>> {
+        let at = self.wind_to(reel, block)?;
+        kind(found_at(self.bytes.as_slice(), at))
     }
 
-    fn fetch(&mut self, reel: u32, block: u32, buffer: &mut [u8]) -> Result<Kind, Short> {
-        let found = self.find(reel, block);
-        deliver(self.bytes.as_slice(), found, buffer)
+    fn fetch(
+        &mut self,
+        reel: u32,
+        block: u32,
+        buffer: &mut [u8],
+    ) -> Result<Option<Kind<usize>>, Short> {
+        let Some(at) = self.wind_to(reel, block) else {
+            return Ok(None);
+        };
+        deliver(found_at(self.bytes.as_slice(), at), buffer)
     }
 }

@@ -21,7 +21,7 @@ returns-in-Ok-step g c =
     record {
       stays = c.fetch.ensures.stays;
       says = ap (placed c.args.at) (c.in-Ok-step.ensures.says ∙ ap (step c.args.machine.now c.args.at) saw);
-      more = c.there.ensures ∙ f.1;
+      more = c.is_some.ensures ∙ f.1;
       stays_steady = c.in-Ok-step.ensures.stays_steady;
     }
 
