@@ -10,6 +10,7 @@ use deck::{Deck, Kind, Short};
 
 impl Strip {
     // How many blocks a reel has, counted from 0, if there is such a reel.
+    #[tactic(auto, using(crate::proofs::Charts::reels_counted, crate::proofs::Charts::charted_span))]
     fn block_count(&self, reel: usize) -> Option<u32>
         ensures { MatchOption result (length (strip_set self.now) ≤ reel) (λ n. (reel < length (strip_set self.now)) × (n ≡ length (slice_index_or (strip_set self.now) reel []))) }
     {
@@ -36,6 +37,7 @@ impl Deck for Strip {
 
     ghost sound = { λ s. s.sound };
 
+    #[tactic(auto, using(crate::proofs::Charts::reels_counted))]
     fn reels(&mut self) -> u32 {
         self.chart.len() as u32
     }

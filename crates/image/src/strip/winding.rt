@@ -8,6 +8,7 @@ use super::Strip;
 
 impl Strip {
     // To the beginning of a reel, unless the cursor is on that reel.
+    #[tactic(auto, using(crate::proofs::Charts::reels_counted, crate::proofs::Charts::charted_span))]
     fn turn_to(&mut self, reel: usize)
         requires { reel < length (strip_set self.old) }
         ensures stays { self.new.bytes ≡ self.old.bytes }

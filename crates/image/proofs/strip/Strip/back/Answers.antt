@@ -22,8 +22,5 @@ over c = c.size.ensures ∙ ap size (some_same c.unwrap-over.ensures (read c.bef
 pub overflow_sub-self-2 : goal.overflow_sub-self-2
 overflow_sub-self-2 c = omega (arith, over c, (behind_there c.args.self.now c.requires).fits)
 
-pub invariant_of-self-clause-on_block : goal.invariant_of-self-clause-on_block
-invariant_of-self-clause-on_block c = (behind_there c.args.self.now c.requires).stands.on_block
-
 pub invariant_of-self-clause-here : goal.invariant_of-self-clause-here
 invariant_of-self-clause-here c = ap (λ n. c.args.self.now.cursor.at - n) (over c) ∙ (behind_there c.args.self.now c.requires).stands.here

@@ -18,8 +18,5 @@ unwrap-over-requires c = rw (read c)
 pub overflow_add-self : goal.overflow_add-self
 overflow_add-self c = omega (arith, c.requires, (reel_sound (strip_set c.args.self.now) c.args.self.now.cursor.reel c.args.self.now.sound.reels).0)
 
-pub invariant_of-self-clause-on_block : goal.invariant_of-self-clause-on_block
-invariant_of-self-clause-on_block c = (on_there c.args.self.now c.requires).stands.on_block
-
 pub invariant_of-self-clause-here : goal.invariant_of-self-clause-here
 invariant_of-self-clause-here c = ap (λ n. c.args.self.now.cursor.at + n) (c.size.ensures ∙ ap size (some_same c.unwrap-over.ensures (read c.before.before))) ∙ (on_there c.args.self.now c.requires).stands.here
