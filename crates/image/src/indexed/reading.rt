@@ -44,6 +44,7 @@ impl Indexed {
     }
 
     // A block, reel and block counted from 1, its bytes lent.
+    #[tactic(auto, using(crate::proofs::Listings::listed_there))]
     fn find(&self, reel: u32, block: u32) -> Option<Kind<&[u8]>>
         ensures { seen result ≡ look (indexed_set self.now) reel block }
     {

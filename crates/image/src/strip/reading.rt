@@ -18,6 +18,7 @@ impl Strip {
     }
 
     // Winds to a block, reel and block counted from 1, and answers where it lies, if there is such a block.
+    #[tactic(auto, using(crate::proofs::Places::found_there))]
     fn wind_to(&mut self, reel: u32, block: u32) -> Option<usize>
         ensures stays { self.new.bytes ≡ self.old.bytes }
         ensures finds { found_where self.old.bytes.items result ≡ look (strip_set self.old) reel block }
