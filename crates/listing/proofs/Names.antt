@@ -14,9 +14,3 @@ numbered_below code low = grind (arith, nat_tests)
 
 pub numbered_above : (code : ℕ) → 68 < code → decimal code ≡ code_text code
 numbered_above code high = grind (arith, nat_tests)
-
--- A fault with no layer and no place.
-pub placeless : (number : ℕ) → codes "FAULT " ++ (decimal number ++ codes " 0 0 0\n") ≡ fault_text (number, 0, 0, 0)
-placeless number =
-    let line : List ℕ → List ℕ = λ z. codes "FAULT " ++ (decimal number ++ (codes " " ++ (z ++ (codes " " ++ (z ++ (codes " " ++ (z ++ codes "\n"))))))) in
-    ap line (sym (decimal_digit 0 (lit< tt)))
