@@ -17,7 +17,7 @@ impl Strip {
             self.cursor = Cursor {
                 reel,
                 block: 0,
-                at: self.chart.starts[reel],
+                at: self.chart.as_slice()[reel].start,
             };
         }
     }
