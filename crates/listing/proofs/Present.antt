@@ -1,14 +1,11 @@
 -- Readable lines, and how many bands have been listed.
-use Rattle.std.proofs.Common.{◌≡◌, ℕ, zero, suc, ◌+◌, ◌<◌, ◌≤◌, true, false, List, [], ◌∷◌, ◌++◌, length, drop, get_or, take, is_ok, Some, None, Ok, Err, Option, Result, sym, refl, ap, ◌∙◌, append_assoc, append-nil, add-one, arith}
+use Rattle.std.proofs.Common.{◌≡◌, ℕ, zero, suc, ◌+◌, ◌<◌, ◌≤◌, true, false, List, [], ◌∷◌, ◌++◌, length, get_or, take, is_ok, Ok, Err, Option, Result, sym, refl, ap, ◌∙◌, append_assoc, append-nil, arith}
 use Rattle.std.proofs.lemmas.List.{take_more}
-use Rattle.deck.specs.Tape.{TapeSet, nth, from_one}
+use Rattle.deck.specs.Tape.{TapeSet}
 use Rattle.machine.specs.declared.accepted.Accepted.{Accepted}
-use Rattle.survey.specs.Surveys.{Fault}
-use Rattle.reader.specs.Bodies.{Delivery, told, told_delivery, line_answer, band_answer, code_of}
-use Rattle.reader.specs.Finding.{codes}
-use Rattle.reader.specs.Refusals.{told_refusal}
+use Rattle.reader.specs.Bodies.{Delivery, told, told_delivery, line_answer}
 use Rattle.reader.specs.declared.refusal.Refusal.{Refusal}
-use Rattle.listing.specs.Tapes.{delivered, readable, band_text, bands_text, each, present}
+use Rattle.listing.specs.Tapes.{delivered, readable, band_text, bands_text}
 
 few-delivered : (d : Delivery) → delivered d ≤ 1
 few-delivered (Ok body) = omega arith
