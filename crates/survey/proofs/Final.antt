@@ -9,11 +9,11 @@ use Rattle.survey.specs.Surveys.{Fault, fault_at, placed, then, feed_reel, feed,
 
 -- A step that fails, fails at its own place.
 placed_at : (reel block : ℕ) (s : Result Machine ℕ) (f : Fault) → placed (place_of reel block) s ≡ Err f → (fault_reel f ≡ reel) × (fault_block f ≡ block)
-placed_at reel block (Ok m) f e = let u : ◌≡◌ {A = ℕ} 0 1 = cc in absurd (omega arith)
+placed_at reel block (Ok m) f e = cc
 placed_at reel block (Err n) f e = let is : f ≡ fault_at n (place_of reel block) = cc in (ap fault_reel is, ap fault_block is)
 
 no_element : {X Y : Type 0} {x : X} → None ≡ Some x → Y
-no_element e = let u : ◌≡◌ {A = ℕ} 0 1 = cc in absurd (omega arith)
+no_element e = cc
 
 same_element : {X : Type 0} {x y : X} → Some x ≡ Some y → x ≡ y
 same_element e = cc
@@ -52,7 +52,7 @@ module _ (f : Fault) where
 
   -- Where a fault of several reels is.
   reel_of : (rs : TapeSet) (m : Machine) (reel : ℕ) → feed m reel rs ≡ Err f → reel ≤ fault_reel f
-  reel_of [] m reel e = let u : ◌≡◌ {A = ℕ} 0 1 = cc in absurd (omega arith)
+  reel_of [] m reel e = cc
   reel_of (r ∷ rs) m reel e = follow (λ n. reel_of rs n (reel + 1)) (feed_reel m reel 1 r) refl e
     where
       follow : ((n : Machine) → feed n (reel + 1) rs ≡ Err f → reel + 1 ≤ fault_reel f) → (o : Result Machine Fault) → feed_reel m reel 1 r ≡ o → then o (λ n. feed n (reel + 1) rs) ≡ Err f → reel ≤ fault_reel f
@@ -60,7 +60,7 @@ module _ (f : Fault) where
       follow again (Err g) p q = let u = (place_on r m reel 1 (p ∙ q)).0 in omega (arith, u)
 
   over_reels : (rs us : TapeSet) (m : Machine) (reel : ℕ) → feed m reel rs ≡ Err f → length rs ≡ length us → ((j k : ℕ) → reel + j < fault_reel f → look_on (nth rs j) k ≡ look_on (nth us j) k) → ((j k : ℕ) → reel + j ≡ fault_reel f → k ≤ fault_block f → look_on (nth rs j) k ≡ look_on (nth us j) k) → feed m reel us ≡ Err f
-  over_reels [] us m reel e long before upon = let u : ◌≡◌ {A = ℕ} 0 1 = cc in absurd (omega arith)
+  over_reels [] us m reel e long before upon = cc
   over_reels (r ∷ rs) [] m reel e long before upon = absurd (omega (arith, long))
   over_reels (r ∷ rs) (u ∷ us) m reel e long before upon = follow (λ n. over_reels rs us n (reel + 1)) (feed_reel m reel 1 r) refl e
     where
@@ -79,7 +79,7 @@ module _ (f : Fault) where
 
 -- The fault of a survey.
 fed : (o : Result Machine Fault) (f : Fault) → then o (λ m. Ok (accepted m)) ≡ Err f → o ≡ Err f
-fed (Ok m) f e = let u : ◌≡◌ {A = ℕ} 0 1 = cc in absurd (omega arith)
+fed (Ok m) f e = cc
 fed (Err g) f e = let is : g ≡ f = cc in ap Err is
 
 pub final : (a b : TapeSet) (f : Fault) → surveyed a ≡ Err f → length a ≡ length b → SameThrough (fault_reel f) (fault_block f) a b → surveyed b ≡ Err f

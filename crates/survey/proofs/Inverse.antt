@@ -16,7 +16,7 @@ abbrev pub after : ℕ → ℕ → Reel → TapeSet → Result Machine ℕ → R
 after reel block bs rs s = then (then (placed (place_of reel block) s) (λ n. feed_reel n reel (block + 1) bs)) (λ n. feed n (reel + 1) rs)
 
 pub refused : {X : Type 0} (f : Fault) (z : Machine) → ◌≡◌ {A = Result Machine Fault} (Err f) (Ok z) → X
-refused f z e = let k : ◌≡◌ {A = ℕ} 0 1 = cc in absurd (omega arith)
+refused f z e = cc
 
 module _ (reel block : ℕ) (bs : Reel) (rs : TapeSet) (z : Machine) where
   pub was_passed : (o : Option ℕ) (s : Result Machine ℕ) → after reel block bs rs (passed o s) ≡ Ok z → (o ≡ None) × (after reel block bs rs s ≡ Ok z)
@@ -55,10 +55,10 @@ pub record Headed (xs : List ℕ) (l : Layout) (last : ℕ) (h : Header) : Type 
 
 four : (a b c d : Bool) (x h : Header) → cond {A = Result Header ℕ} a (cond b (cond c (cond d (Ok x) (Err 34)) (Err 33)) (Err 34)) (Err 33) ≡ Ok h → (a ≡ true) × ((b ≡ true) × ((c ≡ true) × ((d ≡ true) × (h ≡ x))))
 four true true true true x h e = (refl, (refl, (refl, (refl, cc))))
-four true true true false x h e = let k : ◌≡◌ {A = ℕ} 0 1 = cc in absurd (omega arith)
-four true true false d x h e = let k : ◌≡◌ {A = ℕ} 0 1 = cc in absurd (omega arith)
-four true false c d x h e = let k : ◌≡◌ {A = ℕ} 0 1 = cc in absurd (omega arith)
-four false b c d x h e = let k : ◌≡◌ {A = ℕ} 0 1 = cc in absurd (omega arith)
+four true true true false x h e = cc
+four true true false d x h e = cc
+four true false c d x h e = cc
+four false b c d x h e = cc
 
 pub header-says : (xs : List ℕ) (l : Layout) (last : ℕ) (h : Header) → header xs l last ≡ Ok h → Headed xs l last h
 unfolding header
@@ -77,7 +77,7 @@ header-says xs l last h e =
 pub zero_if : (absent blank : Bool) → (absent && not blank) ≡ false → absent ≡ true → blank ≡ true
 zero_if true true e h = refl
 zero_if true false e h = sym e
-zero_if false blank e h = let k : ◌≡◌ {A = ℕ} 0 1 = cc in absurd (omega arith)
+zero_if false blank e h = cc
 
 pub not_absent : (absent : Bool) → (absent && true) ≡ false → absent ≡ false
 not_absent true e = e

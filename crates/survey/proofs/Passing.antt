@@ -9,10 +9,10 @@ same n = eq-eqb n n refl
 
 four : (a b c d : Bool) → cond {A = Option ℕ} a (cond b (cond c (cond d None (Some 26)) (Some 25)) (Some 24)) (Some 23) ≡ None → (a ≡ true) × ((b ≡ true) × ((c ≡ true) × (d ≡ true)))
 four true true true true e = (refl, (refl, (refl, refl)))
-four true true true false e = let z : ◌≡◌ {A = ℕ} 0 1 = cc in absurd (omega arith)
-four true true false d e = let z : ◌≡◌ {A = ℕ} 0 1 = cc in absurd (omega arith)
-four true false c d e = let z : ◌≡◌ {A = ℕ} 0 1 = cc in absurd (omega arith)
-four false b c d e = let z : ◌≡◌ {A = ℕ} 0 1 = cc in absurd (omega arith)
+four true true true false e = cc
+four true true false d e = cc
+four true false c d e = cc
+four false b c d e = cc
 
 four_pass : (a b c d : Bool) → a ≡ true → b ≡ true → c ≡ true → d ≡ true → cond {A = Option ℕ} a (cond b (cond c (cond d None (Some 26)) (Some 25)) (Some 24)) (Some 23) ≡ None
 four_pass a b c d p q r s = rw (p, q, r, s) refl
