@@ -12,18 +12,12 @@ placed_at : (reel block : ℕ) (s : Result Machine ℕ) (f : Fault) → placed (
 placed_at reel block (Ok m) f e = cc
 placed_at reel block (Err n) f e = let is : f ≡ fault_at n (place_of reel block) = cc in (ap fault_reel is, ap fault_block is)
 
-no_element : {X Y : Type 0} {x : X} → None ≡ Some x → Y
-no_element e = cc
-
-same_element : {X : Type 0} {x y : X} → Some x ≡ Some y → x ≡ y
-same_element e = cc
-
 -- Lists with the same elements.
 same_all : {X : Type 0} (xs ys : List X) → ((k : ℕ) → nth xs k ≡ nth ys k) → xs ≡ ys
 same_all [] [] h = refl
-same_all [] (y ∷ ys) h = no_element (h 0)
-same_all (x ∷ xs) [] h = no_element (sym (h 0))
-same_all (x ∷ xs) (y ∷ ys) h = ap (λ k. k ∷ xs) (same_element (h 0)) ∙ ap (λ k. y ∷ k) (same_all xs ys (λ k. h (suc k)))
+same_all [] (y ∷ ys) h = let e = h 0 in cc
+same_all (x ∷ xs) [] h = let e = h 0 in cc
+same_all (x ∷ xs) (y ∷ ys) h = let e = h 0 in let rest = same_all xs ys (λ k. h (suc k)) in cc
 
 -- Where a fault of a reel is.
 module _ (f : Fault) where
@@ -38,11 +32,12 @@ module _ (f : Fault) where
   -- The same blocks up to the fault give the same fault, on one reel.
   on_reel : (bs cs : Reel) (m : Machine) (reel block : ℕ) → feed_reel m reel block bs ≡ Err f → ((k : ℕ) → block + k ≤ fault_block f → nth bs k ≡ nth cs k) → feed_reel m reel block cs ≡ Err f
   on_reel [] [] m reel block e h = e
-  on_reel [] (c ∷ cs) m reel block e h = let u = (placed_at reel block (step m (place_of reel block) None) f e).1 in no_element (h 0 (omega (arith, u)))
-  on_reel (b ∷ bs) [] m reel block e h = let u = (place_on (b ∷ bs) m reel block e).1 in no_element (sym (h 0 (omega (arith, u))))
+  on_reel [] (c ∷ cs) m reel block e h = let u = (placed_at reel block (step m (place_of reel block) None) f e).1 in let o = h 0 (omega (arith, u)) in cc
+  on_reel (b ∷ bs) [] m reel block e h = let u = (place_on (b ∷ bs) m reel block e).1 in let o = h 0 (omega (arith, u)) in cc
   on_reel (b ∷ bs) (c ∷ cs) m reel block e h =
       let u = (place_on (b ∷ bs) m reel block e).1 in
-      let same : b ≡ c = same_element (h 0 (omega (arith, u))) in
+      let o = h 0 (omega (arith, u)) in
+      let same : b ≡ c = cc in
       ap (λ k. then (placed (place_of reel block) (step m (place_of reel block) (Some k))) (λ n. feed_reel n reel (block + 1) cs)) (sym same)
       ∙ follow (λ n. on_reel bs cs n reel (block + 1)) (step m (place_of reel block) (Some b)) e
     where

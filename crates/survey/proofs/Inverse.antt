@@ -1,5 +1,6 @@
 -- What a step that was taken tells of the block.
-use Rattle.std.proofs.Common.{◌≡◌, ℕ, ◌+◌, Bool, true, false, cond, not, ◌&&◌, ◌⊎◌, List, Some, None, Ok, Err, Option, Result, sym, refl, ap, inl, inr, arith}
+use Rattle.std.proofs.Common.{◌≡◌, ℕ, ◌+◌, Bool, true, false, cond, not, ◌&&◌, ◌⊎◌, List, Some, None, Ok, Err, Option, Result, sym, refl, ap, inl, inr}
+use Rattle.survey.proofs.Passing.{four}
 use Rattle.deck.specs.Tape.{Reel, TapeSet}
 use Rattle.records.specs.Headers.{counts_fit, band_fits, trailers_fit, bands_fit, content_of, header}
 use Rattle.machine.specs.Machines.{passed, begun}
@@ -53,24 +54,18 @@ pub record Headed (xs : List ℕ) (l : Layout) (last : ℕ) (h : Header) : Type 
   pub content_is : h.content ≡ content_of (byte xs 136) (byte xs 3586) l.form
   pub trailers_are : h.trailers ≡ byte xs 145
 
-four : (a b c d : Bool) (x h : Header) → cond {A = Result Header ℕ} a (cond b (cond c (cond d (Ok x) (Err 34)) (Err 33)) (Err 34)) (Err 33) ≡ Ok h → (a ≡ true) × ((b ≡ true) × ((c ≡ true) × ((d ≡ true) × (h ≡ x))))
-four true true true true x h e = (refl, (refl, (refl, (refl, cc))))
-four true true true false x h e = cc
-four true true false d x h e = cc
-four true false c d x h e = cc
-four false b c d x h e = cc
-
 pub header-says : (xs : List ℕ) (l : Layout) (last : ℕ) (h : Header) → header xs l last ≡ Ok h → Headed xs l last h
 unfolding header
 header-says xs l last h e =
-    let f = four (counts_fit xs l) (band_fits (byte xs 136) l last) (trailers_fit xs) (bands_fit (byte xs 3586) l) record { content = content_of (byte xs 136) (byte xs 3586) l.form; trailers = byte xs 145 } h e in
+    let f = four (counts_fit xs l) (band_fits (byte xs 136) l last) (trailers_fit xs) (bands_fit (byte xs 3586) l) (λ k. cc) (λ k. cc) (λ k. cc) (λ k. cc) e in
+    let is : record { content = content_of (byte xs 136) (byte xs 3586) l.form; trailers = byte xs 145 } ≡ h = let same = f.1.1.1.1 in cc in
     record {
       counts = f.0;
       band = f.1.0;
       trailers = f.1.1.0;
       bands = f.1.1.1.0;
-      content_is = ap (λ (k : Header). k.content) f.1.1.1.1;
-      trailers_are = ap (λ (k : Header). k.trailers) f.1.1.1.1;
+      content_is = ap (λ (k : Header). k.content) (sym is);
+      trailers_are = ap (λ (k : Header). k.trailers) (sym is);
     }
 
 -- A line of a missing band is zero.

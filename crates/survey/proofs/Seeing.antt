@@ -1,5 +1,5 @@
 -- What a fetch shows is the block that stands there.
-use Rattle.std.proofs.Common.{◌≡◌, ℕ, ◌/◌, Bool, true, false, cond, ltb, List, ◌++◌, length, drop, is_some, Some, None, Ok, Err, Option, Result, refl, ap, subst, arith}
+use Rattle.std.proofs.Common.{◌≡◌, ℕ, ◌/◌, Bool, true, false, cond, ltb, List, ◌++◌, length, drop, is_some, Some, None, Ok, Err, Option, Result, refl, ap, subst}
 use Rattle.std.proofs.lemmas.List.{take_at}
 use Rattle.deck.specs.Answers.{fetched, filled}
 use Rattle.deck.specs.Tape.{Block, written, mark, bad}
