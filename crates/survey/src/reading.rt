@@ -58,9 +58,10 @@ fn survey_reel<D: Deck>(
     ensures says { told_step result machine.new ≡ feed_reel machine.old reel 1 (slice_index_or (D.meaning deck.old) (reel - 1) []) }
     ensures stays_steady { Steady machine.old → OnOk result (Steady machine.new) }
 {
-    let mut block = 1;
-    while take(deck, machine, Place { reel, block }, scratch)? {
-        block += 1;
+    for block in 1.. {
+        if !take(deck, machine, Place { reel, block }, scratch)? {
+            break;
+        }
     }
     Ok(())
 }

@@ -46,15 +46,15 @@ read g c =
     let set = g.D.Deck.meaning c.reels-reels.new.self in
     let inv = c.loop-reel.invariant in
     elim c.loop-reel-test.branch [
-      else-loop-reel-test w ↦
-        let over : length set < c.loop-reel.reel = omega (arith, c.reels-reels.ensures.value, ap length c.reels-reels.ensures.stays) in
-        (ap g.D.Deck.meaning w.deck-is ∙ inv.0, ap Ok w.machine-is ∙ sym (feed_over set c.loop-reel.machine c.loop-reel.reel over) ∙ inv.1)
-    | then-loop-reel-test+in_ok-survey_reel+else-reel-reels w ↦
-        let there : c.loop-reel.reel ≤ length set = omega (arith, c.reels-reels.ensures.value, ap length c.reels-reels.ensures.stays) in
-        let over : length set < c.loop-reel.reel + 1 = omega (arith, c.reels-reels.ensures.value, ap length c.reels-reels.ensures.stays) in
-        let says = subst (λ s. Ok w.survey_reel.new.machine ≡ feed_reel c.loop-reel.machine c.loop-reel.reel 1 (get_or s (c.loop-reel.reel - 1) [])) inv.0 w.in_ok-survey_reel.ensures.says in
-        let more = reel_more set c.loop-reel.machine c.loop-reel.reel c.loop-reel.auto.reel there w.survey_reel.new.machine says in
-        (ap g.D.Deck.meaning w.deck-is ∙ w.survey_reel.ensures.stays ∙ inv.0, ap Ok w.machine-is ∙ sym (feed_over set w.survey_reel.new.machine (c.loop-reel.reel + 1) over) ∙ more ∙ inv.1)
+      | else-loop-reel-test w ↦
+          let over : length set < c.loop-reel.reel = omega (arith, c.reels-reels.ensures.value, ap length c.reels-reels.ensures.stays) in
+          (ap g.D.Deck.meaning w.deck-is ∙ inv.0, ap Ok w.machine-is ∙ sym (feed_over set c.loop-reel.machine c.loop-reel.reel over) ∙ inv.1)
+      | then-loop-reel-test+in_ok-survey_reel+else-reel-reels w ↦
+          let there : c.loop-reel.reel ≤ length set = omega (arith, c.reels-reels.ensures.value, ap length c.reels-reels.ensures.stays) in
+          let over : length set < c.loop-reel.reel + 1 = omega (arith, c.reels-reels.ensures.value, ap length c.reels-reels.ensures.stays) in
+          let says = subst (λ s. Ok w.survey_reel.new.machine ≡ feed_reel c.loop-reel.machine c.loop-reel.reel 1 (get_or s (c.loop-reel.reel - 1) [])) inv.0 w.in_ok-survey_reel.ensures.says in
+          let more = reel_more set c.loop-reel.machine c.loop-reel.reel c.loop-reel.auto.reel there w.survey_reel.new.machine says in
+          (ap g.D.Deck.meaning w.deck-is ∙ w.survey_reel.ensures.stays ∙ inv.0, ap Ok w.machine-is ∙ sym (feed_over set w.survey_reel.new.machine (c.loop-reel.reel + 1) over) ∙ more ∙ inv.1)
     ]
 
 pub returns : goal.returns
