@@ -11,26 +11,31 @@ use Rattle.deck.specs.declared.Kind.{Kind}
 use Rattle.deck.specs.declared.Kind.TheVariants.{Record}
 use Rattle.deck.specs.declared.Short.{Short}
 use Rattle.machine.specs.Findings.{place_of}
-use Rattle.machine.specs.declared.machine.Place.{Place}
-use Rattle.reader.specs.Bodies.{body_of, body_at}
+use Rattle.reader.specs.Bodies.{Delivery, body_of, body_at}
 use Rattle.reader.specs.declared.places.Spot.{Spot}
 use Rattle.survey.specs.Recordings.{Body, Line, record_of}
-use Rattle.turner.specs.Shown.{bears, readable, borne_at, body_from, record_block, source_block}
-use Rattle.turner.specs.declared.source.Origin.TheVariants.{Below}
+use Rattle.turner.specs.Shown.{bears, readable, borne_at, borne, found, body_from, record_block, source_block}
+use Rattle.turner.specs.declared.delivery.Found.{Found}
+use Rattle.turner.specs.declared.delivery.Found.TheVariants.{Blank, Borne as Lent}
+use Rattle.turner.specs.declared.source.Origin.{Origin}
+use Rattle.turner.specs.declared.source.Origin.TheVariants.{Zero, Below, Nowhere}
 use Rattle.turner.specs.declared.source.Source.{Source}
 
 -- A place that bears no record of the length.
-pub not_borne : (set : TapeSet) (size : ℕ) (p : Option Spot) (s : Spot) → p ≡ Some s → body_at set p size ≡ Err 46 → borne_at set size p ≡ None
-not_borne set size None s e b = refl
-not_borne set size (Some t) s e b = ap (λ d. cond (bears d) (Some (place_of t.reel t.block)) None) b
+pub not_borne : (set : TapeSet) (size : ℕ) (s : Spot) → body_at set (Some s) size ≡ Err 46 → borne_at set size s ≡ None
+not_borne set size s b = ap (λ d. cond (bears d) (Some (place_of s.reel s.block)) None) b
+
+-- What a fetch answers.
+abbrev Answer : Type 0
+Answer = Result (Option (Kind ℕ)) Short
 
 -- A record that a buffer takes.
 module _ (rec buffer : List ℕ) (size : ℕ) (long : length rec ≡ size) (room : size ≤ length buffer) where
   fits : ltb (length buffer) (length rec) ≡ false
   fits = le-ltb (length buffer) (length rec) (omega arith)
 
-  pub fetched-whole : fetched (Some (written rec)) (length buffer) ≡ Ok (Record size)
-  fetched-whole = cond-false {A = Result Kind Short} (ltb (length buffer) (length rec)) (Err record {}) (Ok (Record (length rec))) fits ∙ ap (λ n. Ok (Record n)) long
+  pub fetched-whole : fetched (Some (written rec)) (length buffer) ≡ Ok (Some (Record size))
+  fetched-whole = cond-false {A = Answer} (ltb (length buffer) (length rec)) (Err record {}) (Ok (Some (Record (length rec)))) fits ∙ ap (λ n. Ok (Some (Record n))) long
 
   pub filled-whole : filled (Some (written rec)) buffer ≡ rec ++ drop size buffer
   filled-whole = cond-false (ltb (length buffer) (length rec)) buffer (rec ++ drop (length rec) buffer) fits ∙ ap (λ n. rec ++ drop n buffer) long
@@ -65,7 +70,7 @@ module _ (size kind n : ℕ) (o : Option Block) (buffer : List ℕ) (six : 6 ≤
   shown_is : record_block (λ body. body) kind n (readable (body_of size o)) ≡ written (record_of n kind (drop 6 b.bytes))
   shown_is = ap (λ d. record_block (λ body. body) kind n (readable d)) b.body
 
-  pub copied_value : Ok (Record size) ≡ fetched (Some (record_block (λ body. body) kind n (readable (body_of size o)))) (length buffer)
+  pub copied_value : Ok (Some (Record size)) ≡ fetched (Some (record_block (λ body. body) kind n (readable (body_of size o)))) (length buffer)
   copied_value =
       sym (ap (λ x. fetched (Some x) (length buffer)) shown_is ∙ fetched-whole (record_of n kind (drop 6 b.bytes)) buffer size shown_long room)
 
@@ -83,7 +88,7 @@ module _ (rec buffer : List ℕ) (size : ℕ) (long : length rec ≡ size) (shor
   no_room = lt-ltb (length buffer) (length rec) (omega arith)
 
   pub fetched_short : Err record {} ≡ fetched (Some (written rec)) (length buffer)
-  fetched_short = sym (cond-true {A = Result Kind Short} (ltb (length buffer) (length rec)) (Err record {}) (Ok (Record (length rec))) no_room)
+  fetched_short = sym (cond-true {A = Answer} (ltb (length buffer) (length rec)) (Err record {}) (Ok (Some (Record (length rec)))) no_room)
 
   pub filled_short : buffer ≡ filled (Some (written rec)) buffer
   filled_short = sym (cond-true (ltb (length buffer) (length rec)) buffer (rec ++ drop (length rec) buffer) no_room)
@@ -104,20 +109,24 @@ zero_bytes size kind n m buffer was body six room w b e =
     ∙ ap (λ xs. record_of n kind (replicate (size - 6) 0) ++ xs) (drop-drop (size - 6) 6 buffer ∙ ap (λ k. drop k buffer) behind)
     ∙ sym (filled-whole (record_of n kind (replicate (size - 6) 0)) buffer size (zero_long size kind n six) room)
 
--- The place that was found.
-place_if : (set : TapeSet) (size : ℕ) (s : Spot) (at : Place) (b : Bool) → cond b (Some (place_of s.reel s.block)) None ≡ Some at → body_at set (Some s) size ≡ body_of size (look set at.reel at.block)
-place_if set size s at true e = let is : place_of s.reel s.block ≡ at = cc in ap (λ p. body_of size (look set p.reel p.block)) is
-place_if set size s at false e = let z : ◌≡◌ {A = ℕ} 0 1 = cc in absurd (omega arith)
+-- The body of what was found.
+abbrev pub body_found : TapeSet → ℕ → Option Found → Line
+body_found set size None = None
+body_found set size (Some Blank) = Some (replicate (size - 6) 0)
+body_found set size (Some (Lent at)) = readable (body_of size (look set at.reel at.block))
 
-pub place_found : (set : TapeSet) (size : ℕ) (p : Option Spot) (at : Place) → borne_at set size p ≡ Some at → body_at set p size ≡ body_of size (look set at.reel at.block)
-place_found set size None at e = let z : ◌≡◌ {A = ℕ} 0 1 = cc in absurd (omega arith)
-place_found set size (Some s) at e = place_if set size s at (bears (body_at set (Some s) size)) e
+found_below : (set : TapeSet) (size : ℕ) (s : Spot) (d : Delivery) → body_at set (Some s) size ≡ d → readable d ≡ body_found set size (borne (cond (bears d) (Some (place_of s.reel s.block)) None))
+found_below set size s (Ok body) e = sym (ap readable e)
+found_below set size s (Err n) e = refl
 
-pub source_found : (set now : TapeSet) (source : Option Source) (s : Source) (p : Option Spot) (at : Place) → source ≡ Some s → s.origin ≡ Below p → now ≡ set → borne_at set s.size p ≡ Some at → record_block (λ body. body) s.kind s.number (readable (body_of s.size (look now at.reel at.block))) ≡ source_block (λ body. body) set source
-source_found set now source s p at is from same found =
-    ap (λ x. record_block (λ body. body) s.kind s.number (readable (body_of s.size (look x at.reel at.block)))) same
-    ∙ sym (ap (λ d. record_block (λ body. body) s.kind s.number (readable d)) (place_found set s.size p at found))
-    ∙ sym (ap (λ o. record_block (λ body. body) s.kind s.number (body_from set s.size o)) from)
+found_from : (set : TapeSet) (size : ℕ) (o : Origin) → body_from set size o ≡ body_found set size (found set size o)
+found_from set size Zero = refl
+found_from set size (Below s) = found_below set size s (body_at set (Some s) size) refl
+found_from set size Nowhere = refl
+
+pub source_found : (set : TapeSet) (source : Option Source) (s : Source) (f : Option Found) → source ≡ Some s → found set s.size s.origin ≡ f → record_block (λ body. body) s.kind s.number (body_found set s.size f) ≡ source_block (λ body. body) set source
+source_found set source s f is e =
+    sym (ap (record_block (λ body. body) s.kind s.number) (found_from set s.size s.origin ∙ ap (body_found set s.size) e))
     ∙ sym (ap (source_block (λ body. body) set) is)
 
 -- A source whose record a buffer has taken.
@@ -133,11 +142,11 @@ record Whole (rec buffer : List ℕ) (size : ℕ) : Type 0 where
   pub long : length rec ≡ size
   pub room : size ≤ length buffer
 
-whole_if : (rec buffer : List ℕ) (size : ℕ) (b : Bool) → ltb (length buffer) (length rec) ≡ b → cond {A = Result Kind Short} b (Err record {}) (Ok (Record (length rec))) ≡ Ok (Record size) → Whole rec buffer size
+whole_if : (rec buffer : List ℕ) (size : ℕ) (b : Bool) → ltb (length buffer) (length rec) ≡ b → cond {A = Answer} b (Err record {}) (Ok (Some (Record (length rec)))) ≡ Ok (Some (Record size)) → Whole rec buffer size
 whole_if rec buffer size true e h = let z : ◌≡◌ {A = ℕ} 0 1 = cc in absurd (omega arith)
 whole_if rec buffer size false e h = let long : length rec ≡ size = cc in record { long = long; room = omega (arith, ltb-false (length buffer) (length rec) e, long) }
 
-taken_line : (set : TapeSet) (s : Source) (buffer : List ℕ) (size : ℕ) (line : Line) → body_from set s.size s.origin ≡ line → fetched (Some (record_block (λ body. body) s.kind s.number line)) (length buffer) ≡ Ok (Record size) → Taken set (Some s) buffer size
+taken_line : (set : TapeSet) (s : Source) (buffer : List ℕ) (size : ℕ) (line : Line) → body_from set s.size s.origin ≡ line → fetched (Some (record_block (λ body. body) s.kind s.number line)) (length buffer) ≡ Ok (Some (Record size)) → Taken set (Some s) buffer size
 taken_line set s buffer size None e h = let z : ◌≡◌ {A = ℕ} 0 1 = cc in absurd (omega arith)
 taken_line set s buffer size (Some body) e h =
     let w = whole_if (record_of s.number s.kind body) buffer size (ltb (length buffer) (length (record_of s.number s.kind body))) refl h in
@@ -150,7 +159,7 @@ taken_line set s buffer size (Some body) e h =
       room = w.room;
     }
 
-pub taken : (set : TapeSet) (source : Option Source) (buffer : List ℕ) (size : ℕ) → fetched (Some (source_block (λ body. body) set source)) (length buffer) ≡ Ok (Record size) → Taken set source buffer size
+pub taken : (set : TapeSet) (source : Option Source) (buffer : List ℕ) (size : ℕ) → fetched (Some (source_block (λ body. body) set source)) (length buffer) ≡ Ok (Some (Record size)) → Taken set source buffer size
 taken set None buffer size h = let z : ◌≡◌ {A = ℕ} 0 1 = cc in absurd (omega arith)
 taken set (Some s) buffer size h = taken_line set s buffer size (body_from set s.size s.origin) refl h
 
@@ -162,7 +171,7 @@ module _ (f : Body → Body) (keeps : (body : Body) → length (f body) ≡ leng
   old_long : length (record_of t.number t.kind t.body) ≡ size
   old_long = omega (arith, t.long)
 
-  pub changed-value : Ok (Record size) ≡ fetched (Some (source_block f set source)) (length buffer)
+  pub changed-value : Ok (Some (Record size)) ≡ fetched (Some (source_block f set source)) (length buffer)
   changed-value =
       sym (ap (λ b. fetched (Some b) (length buffer)) (t.is f) ∙ fetched-whole (record_of t.number t.kind (f t.body)) buffer size new_long t.room)
 
@@ -203,7 +212,7 @@ module _ (f : Body → Body) (keeps : (body : Body) → length (f body) ≡ leng
         bytes = sym (filled_short old buffer size old_is h) ∙ filled_short new buffer size new_is h;
       }
 
-  alike : (line : Line) → ((size : ℕ) → fetched (Some (record_block (λ body. body) kind n line)) (length buffer) ≡ Ok (Record size) → ⊥) → Alike line
+  alike : (line : Line) → ((size : ℕ) → fetched (Some (record_block (λ body. body) kind n line)) (length buffer) ≡ Ok (Some (Record size)) → ⊥) → Alike line
   alike None never = record { value = refl; bytes = refl }
   alike (Some body) never =
       ⊎_elim
@@ -211,6 +220,6 @@ module _ (f : Body → Body) (keeps : (body : Body) → length (f body) ≡ leng
       (λ (h : length body + 6 ≤ length buffer). let is : length (record_of n kind body) ≡ length body + 6 = omega arith in absurd (never (length body + 6) (fetched-whole (record_of n kind body) buffer (length body + 6) is h)))
       (cases_lt (length buffer) (length body + 6))
 
-pub untaken : (f : Body → Body) → ((body : Body) → length (f body) ≡ length body) → (set : TapeSet) (source : Option Source) (buffer : List ℕ) → ((size : ℕ) → fetched (Some (source_block (λ body. body) set source)) (length buffer) ≡ Ok (Record size) → ⊥) → Same f set source buffer
+pub untaken : (f : Body → Body) → ((body : Body) → length (f body) ≡ length body) → (set : TapeSet) (source : Option Source) (buffer : List ℕ) → ((size : ℕ) → fetched (Some (source_block (λ body. body) set source)) (length buffer) ≡ Ok (Some (Record size)) → ⊥) → Same f set source buffer
 untaken f keeps set None buffer never = record { value = refl; bytes = refl }
 untaken f keeps set (Some s) buffer never = let a = alike f keeps buffer s.kind s.number (body_from set s.size s.origin) never in record { value = a.value; bytes = a.bytes }

@@ -1,3 +1,4 @@
+pub mod Bounded
 pub mod Assembling
 pub mod Deliveries
 pub mod Separating

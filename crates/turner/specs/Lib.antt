@@ -1,3 +1,4 @@
+pub mod Bounds
 pub mod Shapes
 pub mod Pieces
 pub mod Changes

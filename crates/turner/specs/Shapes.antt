@@ -1,14 +1,13 @@
 -- What a turner remembers of an accepted set of the scanner, and how large the set is that it shows.
-use Rattle.std.specs.Prelude.{ℕ, ◌*◌, Bool, true, cond, ◌&&◌, length, Some, None, Ok, Err, Option, Result, nat_le, slice_index_or}
+use Rattle.std.specs.Prelude.{◌≡◌, ℕ, ◌*◌, Bool, true, false, length, Some, None, Ok, Err, Option, Result, refl}
 use Rattle.records.specs.Layouts.{record_length, attributes, stride}
 use Rattle.records.specs.declared.layout.Form.{Form}
 use Rattle.records.specs.declared.layout.Form.TheVariants.{Interleaved, Sequential, Vidicon}
 use Rattle.records.specs.declared.layout.Layout.{Layout}
-use Rattle.machine.specs.Machines.{no_group}
 use Rattle.machine.specs.declared.accepted.Accepted.{Accepted}
-use Rattle.machine.specs.declared.machine.Group.{Group}
 use Rattle.survey.specs.Surveys.{Fault}
 use Rattle.reader.specs.Finding.{codes}
+use Rattle.turner.specs.Bounds.{first_group, small}
 use Rattle.turner.specs.declared.shape.Order.{Order}
 use Rattle.turner.specs.declared.shape.Order.TheVariants.{ByLine, ByBand}
 use Rattle.turner.specs.declared.shape.Turning.{Turning}
@@ -18,10 +17,6 @@ abbrev pub other_order : Form → Option Order
 other_order Interleaved = Some ByBand
 other_order Sequential = Some ByLine
 other_order Vidicon = None
-
--- The group whose sheets are shown: the first.
-abbrev pub first_group : Accepted → Group
-first_group a = slice_index_or a.places.table 0 no_group
 
 abbrev pub layout_of : Turning → Layout
 layout_of t = t.accepted.summary.layout
@@ -51,18 +46,14 @@ sheets t = attributes t.accepted.summary.layout
 abbrev pub trailers : Turning → ℕ
 trailers t = (first_group t.accepted).trailers
 
--- The bounds of every accepted set: 8,192 lines, five bands and five trailers. What is shown then fits on a reel.
-abbrev pub small : Accepted → Bool
-small a = nat_le a.summary.lines 8192 && (nat_le (length (codes a)) 5 && nat_le (first_group a).trailers 5)
+-- What is remembered of an accepted set, if it keeps to the bounds, and of the outcome of a survey.
+abbrev pub within : (a : Accepted) → Order → (b : Bool) → small a ≡ b → Option Turning
+within a o true h = Some record { accepted = a; order = o; bounds = h }
+within a o false h = None
 
-abbrev pub fits : Option Turning → Bool
-fits None = true
-fits (Some t) = small t.accepted
-
--- What is remembered of an accepted set, and of the outcome of a survey.
 abbrev pub in_order : Accepted → Option Order → Option Turning
 in_order a None = None
-in_order a (Some o) = cond (small a) (Some record { accepted = a; order = o }) None
+in_order a (Some o) = within a o (small a) refl
 
 abbrev pub turning_of : Accepted → Option Turning
 turning_of a = in_order a (other_order a.summary.layout.form)

@@ -1,8 +1,10 @@
 -- The set that a turner shows.
-use Rattle.std.specs.Prelude.{ℕ, ◌+◌, ◌-◌, ◌/◌, ◌%◌, ◌≤◌, Bool, true, false, cond, [], ◌∷◌, map, replicate, Some, None, Ok, Err, Option, nat_le}
+use Rattle.std.specs.Prelude.{ℕ, ◌+◌, ◌-◌, ◌/◌, ◌%◌, Bool, true, false, cond, [], ◌∷◌, map, replicate, Some, None, Ok, Err, Option, Result, nat_le}
+use Rattle.std.proofs.Common.{lit≤}
 use Rattle.deck.specs.Tape.{Block, written, mark, bad, Reel, TapeSet}
 use Rattle.deck.specs.declared.Kind.{Kind}
 use Rattle.deck.specs.declared.Kind.TheVariants as kinds
+use Rattle.deck.specs.declared.Short.{Short}
 use Rattle.records.specs.Layouts.{ancillaries, stride}
 use Rattle.machine.specs.Findings.{place_of}
 use Rattle.machine.specs.declared.accepted.Accepted.{Accepted}
@@ -16,22 +18,28 @@ use Rattle.reader.specs.declared.places.BandFile.{BandFile}
 use Rattle.reader.specs.declared.places.Spot.{Spot}
 use Rattle.turner.specs.Changes.{code_at, changed}
 use Rattle.turner.specs.Pieces.{pieces}
-use Rattle.turner.specs.Shapes.{layout_of, first_group, size, remembered}
+use Rattle.turner.specs.Bounds.{first_group, form_six, form_few}
+use Rattle.turner.specs.Shapes.{layout_of, size, remembered}
+use Rattle.turner.specs.declared.delivery.Found.{Found}
+use Rattle.turner.specs.declared.delivery.Found.TheVariants.{Blank, Borne}
 use Rattle.turner.specs.declared.piece.Piece.{Piece}
 use Rattle.turner.specs.declared.piece.Piece.TheVariants.{Mark, Directory, Header, Attribute, Image, Trailer}
 use Rattle.turner.specs.declared.shape.Order.{Order}
 use Rattle.turner.specs.declared.shape.Order.TheVariants.{ByLine, ByBand}
 use Rattle.turner.specs.declared.shape.Turning.{Turning}
 use Rattle.turner.specs.declared.source.Origin.{Origin}
-use Rattle.turner.specs.declared.source.Origin.TheVariants.{Zero, Below}
+use Rattle.turner.specs.declared.source.Origin.TheVariants.{Zero, Below, Nowhere}
 use Rattle.turner.specs.declared.source.Source.{Source}
 
--- Attribute record n of a group, the header being the first, and its trailer n.
+-- Record n of those that follow one another from a place on; attribute record n of a group, the header being the first, and its trailer n.
+abbrev pub record_spot : Place → ℕ → Spot
+record_spot p n = spot p.reel (p.block + (n - 1))
+
 abbrev pub attribute_spot : Group → ℕ → Spot
-attribute_spot g n = spot g.header.reel (g.header.block + (n - 1))
+attribute_spot g n = record_spot g.header n
 
 abbrev pub trailer_spot : Group → ℕ → Spot
-trailer_spot g n = spot g.trailer.reel (g.trailer.block + (n - 1))
+trailer_spot g n = record_spot g.trailer n
 
 -- Attribute records behind the header are ancillaries first, then annotations.
 abbrev pub attribute_type : Turning → ℕ → ℕ
@@ -46,25 +54,34 @@ abbrev pub line_of : Order → Accepted → ℕ → ℕ
 line_of ByLine a k = (k - 1) / stride a.summary.layout + 1
 line_of ByBand a k = k
 
--- A line comes from its block below. A band that is not present has zeros.
+-- A line comes from its block below, if it has a place. A band that is not present has zeros.
+abbrev pub origin_at : Option Spot → Origin
+origin_at None = Nowhere
+origin_at (Some s) = Below s
+
 abbrev pub line_origin : Turning → Option BandFile → ℕ → Origin
 line_origin t None n = Zero
-line_origin t (Some f) n = Below (line_spot f (layout_of t) n)
+line_origin t (Some f) n = origin_at (line_spot f (layout_of t) n)
+
+-- A record of the length of every record but a directory.
+abbrev pub sheet : Turning → ℕ → ℕ → Origin → Source
+sheet t kind n origin = record {
+  kind = kind;
+  number = n;
+  size = size t;
+  origin = origin;
+  six = form_six t.accepted.summary.layout.form;
+  few = form_few t.accepted.summary.layout.form;
+}
 
 -- The type, number and length of each record shown, and where its body comes from. A mark has none of these.
 abbrev pub source : Turning → Piece → Option Source
 source t Mark = None
-source t Directory = Some record { kind = 9; number = 1; size = 360; origin = Below (Some (spot 1 1)) }
-source t (Header i) = Some record { kind = 18; number = 1; size = size t; origin = Below (Some (attribute_spot (first_group t.accepted) 1)) }
-source t (Attribute n) = Some record { kind = attribute_type t n; number = n; size = size t; origin = Below (Some (attribute_spot (first_group t.accepted) n)) }
-source t (Image i k) =
-    Some record {
-      kind = 237;
-      number = k;
-      size = size t;
-      origin = line_origin t (band_file t.accepted (code_of t.order t.accepted i k)) (line_of t.order t.accepted k);
-    }
-source t (Trailer n) = Some record { kind = 246; number = n; size = size t; origin = Below (Some (trailer_spot (first_group t.accepted) n)) }
+source t Directory = Some record { kind = 9; number = 1; size = 360; origin = Below (spot 1 1); six = lit≤ tt; few = lit≤ tt }
+source t (Header i) = Some (sheet t 18 1 (Below (attribute_spot (first_group t.accepted) 1)))
+source t (Attribute n) = Some (sheet t (attribute_type t n) n (Below (attribute_spot (first_group t.accepted) n)))
+source t (Image i k) = Some (sheet t 237 k (line_origin t (band_file t.accepted (code_of t.order t.accepted i k)) (line_of t.order t.accepted k)))
+source t (Trailer n) = Some (sheet t 246 n (Below (trailer_spot (first_group t.accepted) n)))
 
 -- A body, or none where the place below bears no record of that length.
 abbrev pub readable : Delivery → Line
@@ -73,7 +90,8 @@ readable (Err n) = None
 
 abbrev pub body_from : TapeSet → ℕ → Origin → Line
 body_from set size Zero = Some (replicate (size - 6) 0)
-body_from set size (Below s) = readable (body_at set s size)
+body_from set size (Below s) = readable (body_at set (Some s) size)
+body_from set size Nowhere = None
 
 -- A record with a fresh number. What cannot be read shows as bad.
 abbrev pub record_block : (Body → Body) → ℕ → ℕ → Line → Block
@@ -104,20 +122,29 @@ abbrev pub bears : Delivery → Bool
 bears (Ok body) = true
 bears (Err n) = false
 
-abbrev pub borne_at : TapeSet → ℕ → Option Spot → Option Place
-borne_at set size None = None
-borne_at set size (Some s) = cond (bears (body_at set (Some s) size)) (Some (place_of s.reel s.block)) None
+abbrev pub borne_at : TapeSet → ℕ → Spot → Option Place
+borne_at set size s = cond (bears (body_at set (Some s) size)) (Some (place_of s.reel s.block)) None
 
--- A record has its six identification bytes, and no more bytes than a tape's longest.
-abbrev pub Sized : Option Source → Type 0
-Sized None = Unit {0}
-Sized (Some s) = (6 ≤ s.size) × (s.size ≤ 5388)
+-- The record of some length that an origin gives: one of zeros, or one at the place that bears it.
+abbrev pub borne : Option Place → Option Found
+borne None = None
+borne (Some at) = Some (Borne at)
+
+abbrev pub found : TapeSet → ℕ → Origin → Option Found
+found set size Zero = Some Blank
+found set size (Below s) = borne (borne_at set size s)
+found set size Nowhere = None
 
 -- The kind of block that a source gives.
-abbrev pub origin_kind : TapeSet → ℕ → Origin → Kind
-origin_kind set size Zero = kinds.Record size
-origin_kind set size (Below s) = cond (bears (body_at set s size)) (kinds.Record size) kinds.Bad
+abbrev pub found_kind : ℕ → Option Found → Kind ℕ
+found_kind size (Some found) = kinds.Record size
+found_kind size None = kinds.Bad
 
-abbrev pub shown_kind : TapeSet → Option Source → Kind
+abbrev pub shown_kind : TapeSet → Option Source → Kind ℕ
 shown_kind set None = kinds.Mark
-shown_kind set (Some s) = origin_kind set s.size s.origin
+shown_kind set (Some s) = found_kind s.size (found set s.size s.origin)
+
+-- What a fetch answers of a block that is there.
+abbrev pub there : Result (Kind ℕ) Short → Result (Option (Kind ℕ)) Short
+there (Ok kind) = Ok (Some kind)
+there (Err e) = Err e

@@ -1,10 +1,9 @@
 // What is written into a directory and a header to tell the order that is shown.
 ghost use Rattle.std.specs.Prelude.{◌≡◌, ◌≤◌, length};
-ghost use Rattle.turner.specs.Changes.{put, order_byte, directory_changed, header_by_line, header_by_band, header_changed, mask_of, digit, changed};
+ghost use Rattle.turner.specs.Changes.{put, order_byte, directory_changed, header_by_line, header_by_band, header_changed, mask_of, changed};
 
 use super::piece::Piece;
 use super::shape::{Order, Turning};
-use super::source::code_at;
 use reader::codes;
 use records::weight;
 
@@ -12,6 +11,7 @@ use records::weight;
 fn put(body: &mut [u8], byte: usize, value: u8)
     ensures { body.new ≡ put body.old byte value }
 {
+    // by an index, since of a slice that is written through `get_mut` a proof knows no more than the length
     let index = byte.saturating_sub(7);
     if index < body.len() {
         body[index] = value;
@@ -33,11 +33,10 @@ fn mask_of(codes: &[u8]) -> u8
     requires { length codes.now ≤ 5 }
     ensures { result ≡ mask_of codes.now }
 {
-    let mut mask = 0;
-    for code in codes {
-        mask += weight((*code as u32).saturating_sub(4));
-    }
-    mask
+    codes
+        .iter()
+        .map(|code| weight((*code as u32).saturating_sub(4)))
+        .sum()
 }
 
 // A directory is that of reel 1 of 1.
@@ -68,32 +67,30 @@ fn change_by_band(digit: u8, body: &mut [u8])
     put(body, 136, digit);
 }
 
-fn change_header(turning: &Turning, place: u32, body: &mut [u8])
-    ensures { body.new ≡ header_changed turning.now.order turning.now.accepted place body.old }
-{
-    let summary = turning.accepted.summary;
-    match turning.order {
-        Order::ByLine => change_by_line(
-            summary.layout.stride() as u8,
-            mask_of(codes(&summary.bands)),
-            body,
-        ),
-        Order::ByBand => {
-            change_by_band(b'0'.wrapping_add(code_at(&turning.accepted, place)), body)
+impl Turning {
+    // The header of the group at a place.
+    fn change_header(&self, place: u32, body: &mut [u8])
+        ensures { body.new ≡ header_changed self.now.order self.now.accepted place body.old }
+    {
+        let summary = self.accepted.summary;
+        match self.order {
+            Order::ByLine => change_by_line(
+                summary.layout.stride() as u8,
+                mask_of(codes(&summary.bands)),
+                body,
+            ),
+            Order::ByBand => change_by_band(b'0'.wrapping_add(self.code_at(place)), body),
         }
     }
-}
 
-// Changes the body of a piece.
-pub(crate) fn change(turning: &Turning, piece: Piece, body: &mut [u8])
-    ensures { body.new ≡ changed turning.now piece body.old }
-{
-    match piece {
-        Piece::Mark => {}
-        Piece::Directory => change_directory(turning.order, body),
-        Piece::Header(place) => change_header(turning, place, body),
-        Piece::Attribute(_) => {}
-        Piece::Image(_, _) => {}
-        Piece::Trailer(_) => {}
+    // Changes the body of a piece.
+    pub(crate) fn change(&self, piece: Piece, body: &mut [u8])
+        ensures { body.new ≡ changed self.now piece body.old }
+    {
+        match piece {
+            Piece::Directory => change_directory(self.order, body),
+            Piece::Header(place) => self.change_header(place, body),
+            Piece::Mark | Piece::Attribute(_) | Piece::Image(_, _) | Piece::Trailer(_) => {}
+        }
     }
 }

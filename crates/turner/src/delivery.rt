@@ -4,27 +4,32 @@ ghost use Rattle.deck.specs.Answers.{fetched, filled};
 ghost use Rattle.deck.specs.Tape.{look};
 ghost use Rattle.deck.specs.Words.{word};
 ghost use Rattle.reader.specs.Bodies.{body_of};
-ghost use Rattle.turner.specs.Shown.{bears, readable, borne_at, record_block, source_block, piece_block, Sized, shown_kind};
+ghost use Rattle.turner.specs.Shown.{bears, readable, borne_at, found, record_block, source_block, piece_block, shown_kind, there};
 
-use super::change::change;
 use super::piece::Piece;
 use super::shape::Turning;
-use super::source::{Origin, Source, source_of};
+use super::source::{Origin, Source};
 use deck::{Deck, Kind, Short};
 use machine::Place;
 use reader::Spot;
 
+// The record that a body comes from: one of zeros, or one at a place below.
+#[derive(Clone, Copy)]
+pub enum Found {
+    Blank,
+    Borne(Place),
+}
+
 // Where a record of some length stands, if the place below bears one.
-fn borne<D: Deck>(deck: &mut D, spot: Option<Spot>, size: usize) -> Option<Place>
+fn borne<D: Deck>(deck: &mut D, spot: Spot, size: usize) -> Option<Place>
     ensures stays { D.meaning deck.new ≡ D.meaning deck.old }
     ensures value { result ≡ borne_at (D.meaning deck.old) size spot }
 {
-    let spot = spot?;
     let Ok(block) = u32::try_from(spot.block) else {
         return None;
     };
     match deck.kind(spot.reel, block) {
-        Kind::Record(length) if length == size => Some(Place {
+        Some(Kind::Record(length)) if length == size => Some(Place {
             reel: spot.reel,
             block,
         }),
@@ -32,21 +37,29 @@ fn borne<D: Deck>(deck: &mut D, spot: Option<Spot>, size: usize) -> Option<Place
     }
 }
 
+// The record of some length that an origin gives, if it gives one.
+fn find<D: Deck>(deck: &mut D, origin: Origin, size: usize) -> Option<Found>
+    ensures stays { D.meaning deck.new ≡ D.meaning deck.old }
+    ensures value { result ≡ found (D.meaning deck.old) size origin }
+{
+    match origin {
+        Origin::Zero => Some(Found::Blank),
+        Origin::Below(spot) => Some(Found::Borne(borne(deck, spot, size)?)),
+        Origin::Nowhere => None,
+    }
+}
+
 // What kind of block a source gives: one that the tape below does not bear is bad.
-pub(crate) fn kind_from<D: Deck>(deck: &mut D, source: Option<Source>) -> Kind
-    requires { Sized source }
+pub(crate) fn kind_from<D: Deck>(deck: &mut D, source: Option<Source>) -> Kind<usize>
     ensures stays { D.meaning deck.new ≡ D.meaning deck.old }
     ensures value { result ≡ shown_kind (D.meaning deck.old) source }
 {
     let Some(source) = source else {
         return Kind::Mark;
     };
-    match source.origin {
-        Origin::Zero => Kind::Record(source.size),
-        Origin::Below(spot) => match borne(deck, spot, source.size) {
-            Some(_) => Kind::Record(source.size),
-            None => Kind::Bad,
-        },
+    match find(deck, source.origin, source.size) {
+        Some(_) => Kind::Record(source.size),
+        None => Kind::Bad,
     }
 }
 
@@ -55,11 +68,7 @@ fn identify(buffer: &mut [u8], number: u32, kind: u8)
     requires { 6 ≤ length buffer.old }
     ensures { buffer.new ≡ word number ++ 0 ∷ kind ∷ drop 6 buffer.old }
 {
-    let [a, b, c, d] = number.to_be_bytes();
-    buffer[0] = a;
-    buffer[1] = b;
-    buffer[2] = c;
-    buffer[3] = d;
+    buffer[..4].copy_from_slice(&number.to_be_bytes());
     buffer[4] = 0;
     buffer[5] = kind;
 }
@@ -68,15 +77,14 @@ fn identify(buffer: &mut [u8], number: u32, kind: u8)
 fn blank(body: &mut [u8])
     ensures { body.new ≡ replicate (length body.old) 0 }
 {
-    for i in 0..body.len() {
-        body[i] = 0;
+    for byte in body.iter_mut() {
+        *byte = 0;
     }
 }
 
 // Puts a record whose body is zero at the front of the buffer.
-fn zero_record(source: Source, buffer: &mut [u8]) -> Result<Kind, Short>
-    requires { 6 ≤ source.size }
-    ensures value { result ≡ fetched (Some (record_block (λ body. body) source.kind source.number (Some (replicate (source.size - 6) 0)))) (length buffer.old) }
+fn zero_record(source: Source, buffer: &mut [u8]) -> Result<Kind<usize>, Short>
+    ensures value { there result ≡ fetched (Some (record_block (λ body. body) source.kind source.number (Some (replicate (source.size - 6) 0)))) (length buffer.old) }
     ensures bytes { buffer.new ≡ filled (Some (record_block (λ body. body) source.kind source.number (Some (replicate (source.size - 6) 0)))) buffer.old }
 {
     let size = source.size;
@@ -94,11 +102,10 @@ fn copied_record<D: Deck>(
     at: Place,
     source: Source,
     buffer: &mut [u8],
-) -> Result<Kind, Short>
-    requires long { 6 ≤ source.size }
-    requires there { bears (body_of source.size (look (D.meaning deck.old) at.reel at.block)) ≡ true }
+) -> Result<Kind<usize>, Short>
+    requires { bears (body_of source.size (look (D.meaning deck.old) at.reel at.block)) ≡ true }
     ensures stays { D.meaning deck.new ≡ D.meaning deck.old }
-    ensures value { result ≡ fetched (Some (record_block (λ body. body) source.kind source.number (readable (body_of source.size (look (D.meaning deck.old) at.reel at.block))))) (length buffer.old) }
+    ensures value { there result ≡ fetched (Some (record_block (λ body. body) source.kind source.number (readable (body_of source.size (look (D.meaning deck.old) at.reel at.block))))) (length buffer.old) }
     ensures bytes { buffer.new ≡ filled (Some (record_block (λ body. body) source.kind source.number (readable (body_of source.size (look (D.meaning deck.old) at.reel at.block))))) buffer.old }
 {
     if buffer.len() < source.size {
@@ -114,40 +121,39 @@ fn fetch_from<D: Deck>(
     deck: &mut D,
     source: Option<Source>,
     buffer: &mut [u8],
-) -> Result<Kind, Short>
-    requires { Sized source }
+) -> Result<Kind<usize>, Short>
     ensures stays { D.meaning deck.new ≡ D.meaning deck.old }
-    ensures value { result ≡ fetched (Some (source_block (λ body. body) (D.meaning deck.old) source)) (length buffer.old) }
+    ensures value { there result ≡ fetched (Some (source_block (λ body. body) (D.meaning deck.old) source)) (length buffer.old) }
     ensures bytes { buffer.new ≡ filled (Some (source_block (λ body. body) (D.meaning deck.old) source)) buffer.old }
 {
     let Some(source) = source else {
         return Ok(Kind::Mark);
     };
-    match source.origin {
-        Origin::Zero => zero_record(source, buffer),
-        Origin::Below(spot) => match borne(deck, spot, source.size) {
-            Some(at) => copied_record(deck, at, source, buffer),
-            None => Ok(Kind::Bad),
-        },
+    match find(deck, source.origin, source.size) {
+        Some(Found::Blank) => zero_record(source, buffer),
+        Some(Found::Borne(at)) => copied_record(deck, at, source, buffer),
+        None => Ok(Kind::Bad),
     }
 }
 
-// Puts the record of a piece at the front of the buffer, where the buffer takes it, and changes its body.
-pub(crate) fn deliver<D: Deck>(
-    deck: &mut D,
-    turning: &Turning,
-    piece: Piece,
-    buffer: &mut [u8],
-) -> Result<Kind, Short>
-    ensures stays { D.meaning deck.new ≡ D.meaning deck.old }
-    ensures value { result ≡ fetched (Some (piece_block turning.now (D.meaning deck.old) piece)) (length buffer.old) }
-    ensures bytes { buffer.new ≡ filled (Some (piece_block turning.now (D.meaning deck.old) piece)) buffer.old }
-{
-    match fetch_from(deck, source_of(turning, piece), buffer)? {
-        Kind::Record(size) => {
-            change(turning, piece, &mut buffer[6..size]);
-            Ok(Kind::Record(size))
+impl Turning {
+    // Puts the record of a piece at the front of the buffer, where the buffer takes it, and changes its body.
+    pub(crate) fn deliver<D: Deck>(
+        &self,
+        deck: &mut D,
+        piece: Piece,
+        buffer: &mut [u8],
+    ) -> Result<Kind<usize>, Short>
+        ensures stays { D.meaning deck.new ≡ D.meaning deck.old }
+        ensures value { there result ≡ fetched (Some (piece_block self.now (D.meaning deck.old) piece)) (length buffer.old) }
+        ensures bytes { buffer.new ≡ filled (Some (piece_block self.now (D.meaning deck.old) piece)) buffer.old }
+    {
+        match fetch_from(deck, self.source_of(piece), buffer)? {
+            Kind::Record(size) => {
+                self.change(piece, &mut buffer[6..size]);
+                Ok(Kind::Record(size))
+            }
+            other => Ok(other),
         }
-        other => Ok(other),
     }
 }

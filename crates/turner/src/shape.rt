@@ -1,6 +1,6 @@
 // What a turner remembers of an accepted set of the scanner.
 ghost use Rattle.std.specs.Prelude.{◌≡◌, true};
-ghost use Rattle.turner.specs.Shapes.{other_order, first_group, small, turning_of, fits, groups, images, trailers};
+ghost use Rattle.turner.specs.Bounds.{first_group, small};
 
 use machine::{Accepted, Group};
 use reader::codes;
@@ -13,26 +13,16 @@ pub enum Order {
     ByBand,
 }
 
-// An accepted set, and the order in which it is shown: the other one.
+// An accepted set that keeps to the bounds of every accepted set, and the order in which it is shown: the other one.
 #[derive(Clone, Copy)]
 pub struct Turning {
     pub accepted: Accepted,
     pub order: Order,
-}
-
-// The other order. A vidicon's set has none.
-fn other_order(form: Form) -> Option<Order>
-    ensures { result ≡ other_order form }
-{
-    match form {
-        Form::Interleaved => Some(Order::ByBand),
-        Form::Sequential => Some(Order::ByLine),
-        Form::Vidicon => None,
-    }
+    ghost bounds: { small accepted ≡ true },
 }
 
 // The group whose sheets are shown.
-pub(crate) fn first_group(accepted: &Accepted) -> Group
+fn first_group(accepted: &Accepted) -> Group
     ensures { result ≡ first_group accepted.now }
 {
     accepted.places.table[0]
@@ -47,23 +37,45 @@ fn small(accepted: &Accepted) -> bool
         && first_group(accepted).trailers <= 5
 }
 
-// What is remembered of an accepted set: nothing where it is not turned.
-pub(crate) fn turning_of(accepted: Accepted) -> Option<Turning>
-    ensures is { result ≡ turning_of accepted }
-    ensures fits { fits result ≡ true }
-{
-    let order = other_order(accepted.summary.layout.form)?;
-    if small(&accepted) {
-        Some(Turning { accepted, order })
-    } else {
-        None
+impl Order {
+    ghost use Rattle.turner.specs.Shapes.{other_order};
+
+    // The order in which a set of some form is turned. A vidicon's set has none.
+    fn other(form: Form) -> Option<Self>
+        ensures { result ≡ other_order form }
+    {
+        match form {
+            Form::Interleaved => Some(Order::ByBand),
+            Form::Sequential => Some(Order::ByLine),
+            Form::Vidicon => None,
+        }
     }
 }
 
 impl Turning {
+    ghost use Rattle.turner.specs.Shapes.{turning_of, groups, images, trailers};
+
+    // What is remembered of an accepted set: nothing where it is not turned.
+    pub(crate) fn of(accepted: Accepted) -> Option<Self>
+        ensures { result ≡ turning_of accepted }
+    {
+        let order = Order::other(accepted.summary.layout.form)?;
+        if small(&accepted) {
+            Some(Turning { accepted, order })
+        } else {
+            None
+        }
+    }
+
+    // The group whose sheets are shown.
+    pub(crate) fn first_group(&self) -> Group
+        ensures { result ≡ first_group self.now.accepted }
+    {
+        first_group(&self.accepted)
+    }
+
     // How many groups are shown.
     pub(crate) fn groups(&self) -> u32
-        requires { small self.now.accepted ≡ true }
         ensures { result ≡ groups self.now }
     {
         match self.order {
@@ -74,7 +86,6 @@ impl Turning {
 
     // How many image blocks each of them has.
     pub(crate) fn images(&self) -> u32
-        requires { small self.now.accepted ≡ true }
         ensures { result ≡ images self.now }
     {
         let summary = self.accepted.summary;

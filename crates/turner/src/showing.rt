@@ -1,15 +1,11 @@
 // The turner as a deck.
-ghost use Rattle.std.specs.Prelude.{◌≡◌, true};
+ghost use Rattle.std.specs.Prelude.{◌≡◌};
 ghost use Rattle.turner.specs.Laws.{Kept};
-ghost use Rattle.turner.specs.Pieces.{piece_on};
-ghost use Rattle.turner.specs.Shapes.{small, fits};
 ghost use Rattle.turner.specs.Shown.{shown, turned};
 ghost use Rattle.turner.specs.Sounds.{shown_sound};
 
-use super::delivery::{deliver, kind_from};
-use super::piece::{Piece, piece_at};
-use super::shape::{Turning, turning_of};
-use super::source::source_of;
+use super::delivery::kind_from;
+use super::shape::Turning;
 use deck::{Deck, Kind, Short};
 use survey::survey;
 
@@ -18,19 +14,6 @@ use survey::survey;
 pub struct Turner<D> {
     deck: D,
     turning: Option<Turning>,
-    ghost bounds: { fits turning ≡ true },
-}
-
-// The piece at a block of a reel. There is one reel.
-fn piece_on(turning: &Turning, reel: u32, block: u32) -> Option<Piece>
-    requires { small turning.now.accepted ≡ true }
-    ensures { result ≡ piece_on turning.now reel block }
-{
-    if reel == 1 {
-        piece_at(turning, block)
-    } else {
-        None
-    }
 }
 
 impl<D: Deck> Turner<D> {
@@ -41,7 +24,7 @@ impl<D: Deck> Turner<D> {
     {
         let mut deck = deck;
         let turning = match survey(&mut deck) {
-            Ok(accepted) => turning_of(accepted),
+            Ok(accepted) => Turning::of(accepted),
             Err(_) => None,
         };
         Turner { deck, turning }
@@ -68,7 +51,7 @@ impl<D: Deck> Turner<D> {
 impl<D: Deck> Deck for Turner<D> {
     ghost meaning = { λ t. shown t.turning (D.meaning t.deck) };
 
-    ghost sound = { λ t. shown_sound t.turning (D.meaning t.deck) t.bounds (D.sound t.deck) };
+    ghost sound = { λ t. shown_sound t.turning (D.meaning t.deck) (D.sound t.deck) };
 
     fn reels(&mut self) -> u32 {
         match self.turning {
@@ -77,23 +60,26 @@ impl<D: Deck> Deck for Turner<D> {
         }
     }
 
-    fn kind(&mut self, reel: u32, block: u32) -> Kind {
+    fn kind(&mut self, reel: u32, block: u32) -> Option<Kind<usize>> {
         let Some(turning) = self.turning else {
             return self.deck.kind(reel, block);
         };
-        match piece_on(&turning, reel, block) {
-            Some(piece) => kind_from(&mut self.deck, source_of(&turning, piece)),
-            None => Kind::Absent,
-        }
+        let piece = turning.piece_on(reel, block)?;
+        Some(kind_from(&mut self.deck, turning.source_of(piece)))
     }
 
-    fn fetch(&mut self, reel: u32, block: u32, buffer: &mut [u8]) -> Result<Kind, Short> {
+    fn fetch(
+        &mut self,
+        reel: u32,
+        block: u32,
+        buffer: &mut [u8],
+    ) -> Result<Option<Kind<usize>>, Short> {
         let Some(turning) = self.turning else {
             return self.deck.fetch(reel, block, buffer);
         };
-        match piece_on(&turning, reel, block) {
-            Some(piece) => deliver(&mut self.deck, &turning, piece, buffer),
-            None => Ok(Kind::Absent),
-        }
+        let Some(piece) = turning.piece_on(reel, block) else {
+            return Ok(None);
+        };
+        Ok(Some(turning.deliver(&mut self.deck, piece, buffer)?))
     }
 }

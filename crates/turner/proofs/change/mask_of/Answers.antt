@@ -1,16 +1,18 @@
-use Rattle.std.proofs.Common.{◌≡◌, ◌-◌, get_or, ap, ◌∙◌, arith}
+use Rattle.std.proofs.Common.{◌≡◌, ℕ, ◌+◌, ◌-◌, List, [], ◌∷◌, refl, ap, ◌∙◌, rules}
+use Rattle.std.specs.List.{sum_by}
+use Rattle.std.proofs.lemmas.List.Sums.{sum_by-cons}
 use Rattle.records.specs.Bands.{weight}
-use Rattle.turner.specs.ChangesLemmas.{weight_small, mask_more, mask_all}
+use Rattle.turner.specs.Changes.{mask_of}
 use Rattle.turner.proofs.change.mask_of.Goals as goal
 
-pub loop-code-preserved : goal.loop-code-preserved
-loop-code-preserved c =
-    let codes = c.args.codes.now in
-    let i = c.loop-code.code-index in
-    let bit : c.weight-mask.result ≡ weight (get_or codes i 0 - 4) = c.weight-mask.ensures ∙ ap weight c.saturating_sub.ensures in
-    let more = mask_more codes i (omega arith) in
-    let least = weight_small (get_or codes i 0 - 4) in
-    (omega (arith, bit, least, c.loop-code.invariant.0), omega (arith, bit, more, c.loop-code.invariant.1))
+abbrev bit : ℕ → ℕ
+bit code = weight (code - 4)
+
+mask_sum : (codes : List ℕ) → sum_by bit codes ≡ mask_of codes
+mask_sum [] = refl
+mask_sum (code ∷ codes) = sum_by-cons bit code codes ∙ ap (λ rest. bit code + rest) (mask_sum codes)
 
 pub returns : goal.returns
-returns c = omega (arith, c.loop-code.invariant.1, mask_all c.args.codes.now c.loop-code.code-index (omega arith))
+returns c =
+    let summed : c.sum.result ≡ sum_by bit c.args.codes.now = search rules in
+    summed ∙ mask_sum c.args.codes.now

@@ -1,4 +1,4 @@
-use Rattle.std.proofs.Common.{sym, refl}
+use Rattle.std.proofs.Common.{Some, sym, refl}
 use Rattle.reader.proofs.Bodies.{no_spot}
 use Rattle.turner.proofs.Deliveries.{not_borne}
 use Rattle.turner.proofs.delivery.borne.Goals as goal
@@ -6,5 +6,6 @@ use Rattle.turner.proofs.delivery.borne.Goals as goal
 pub returns-in_default : goal.returns-in_default
 returns-in_default g c =
     let set = g.D.Deck.meaning c.args.deck.now in
-    let none = no_spot set c.args.spot c.in_ok-spot.spot c.args.size (g.met.D.Deck.sound c.args.deck.now).reels c.in_ok-spot.was c.in_default.ensures in
-    record { stays = refl; value = sym (not_borne set c.args.size c.args.spot c.in_ok-spot.spot c.in_ok-spot.was none) }
+    let spot = c.args.spot in
+    let none = no_spot set (Some spot) spot c.args.size (g.met.D.Deck.sound c.args.deck.now).reels refl c.in_default.ensures in
+    record { stays = refl; value = sym (not_borne set c.args.size spot none) }
