@@ -5,7 +5,7 @@ ghost use Rattle.fieldlist.specs.Tapes.{tape_text, strip_text};
 use super::list::FieldList;
 use super::measured::Wanted;
 use deck::Deck;
-use image::Strip;
+use image::{Image, Strip};
 use listing::{fault_line, refusal};
 use reader::Reader;
 use std::alloc::{AllocError, Global};

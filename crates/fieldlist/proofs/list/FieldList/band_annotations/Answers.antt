@@ -19,7 +19,7 @@ loop-index-preserved g c =
           (string_bytes c.loop-index.text) c.as_str.result.now (string_bytes c.push_str.new.self) i.2 i.0 i.1 i.4
           (c.as_str.ensures.value ∙ c.in_ok-lines.ensures.text)
           (pushed c.as_str.result.now refl c.in_ok-push_str.was c.push_str.ensures.bytes)
-      ∙ ap (λ k. annotations_to set m k c.args.code) back,
+          ∙ ap (λ k. annotations_to set m k c.args.code) back,
     )
 
 pub returns-clause-text : goal.returns-clause-text
@@ -35,8 +35,8 @@ returns-clause-text g c =
           let end : c.loop-index.index ≡ c.args.count = omega arith in
           ap string_bytes w.text-is
           ∙ one_more set (g.D.Deck.meaning c.loop-index.self.reader.deck) m c.loop-index.self.reader.accepted c.args.code c.loop-index.index
-              (string_bytes c.loop-index.text) w.as_str.result.now (string_bytes w.push_str.new.self) i.2 i.0 i.1 i.4
-              (w.as_str.ensures.value ∙ w.in_ok-lines.ensures.text)
-              (pushed w.as_str.result.now refl w.in_ok-push_str.was w.push_str.ensures.bytes)
+          (string_bytes c.loop-index.text) w.as_str.result.now (string_bytes w.push_str.new.self) i.2 i.0 i.1 i.4
+          (w.as_str.ensures.value ∙ w.in_ok-lines.ensures.text)
+          (pushed w.as_str.result.now refl w.in_ok-push_str.was w.push_str.ensures.bytes)
           ∙ ap (λ k. annotations_to set m k c.args.code) end
     ]
