@@ -1,5 +1,6 @@
 -- One more at the end of a list that is counted or written out.
-use Rattle.std.proofs.Common.{◌≡◌, ℕ, ◌+◌, ◌<◌, ◌≤◌, List, [], ◌∷◌, ◌++◌, map, length, get_or, take, Some, None, Ok, Err, vec_items, Option, sym, refl, ap, ◌∙◌, append_assoc, append-nil, arith}
+use Rattle.std.proofs.Common.{◌≡◌, ℕ, ◌+◌, ◌<◌, ◌≤◌, Bool, true, false, cond, List, [], ◌∷◌, ◌++◌, map, length, get_or, take, Some, None, Ok, Err, vec_items, Option, sym, refl, ap, ◌∙◌, append_assoc, append-nil, arith}
+use mir.Val.{bool_byte}
 use Rattle.std.proofs.lemmas.List.{map_push, map_more, take_more, take_all, length-take}
 use Rattle.deck.specs.Answers.{filled}
 use Rattle.deck.specs.Tape.{Block, written, mark, bad, TapeSet, look}
@@ -76,7 +77,12 @@ pub asked_more : (before after : List Asked) (a : Asked) (asks : List Ask) (i : 
 asked_more before after a asks i d lt b q e =
     ap (map asked) e ∙ map_push asked before a ∙ ap (λ xs. xs ++ asked a ∷ []) b ∙ ap (λ x. map question (take i asks) ++ x ∷ []) q ∙ sym (map_more question asks i d lt)
 
--- Turns and ends of the loops that count.
+-- A truth value as a number.
+pub as_number : (b : Bool) (n : ℕ) → cond b 1 0 ≡ n → bool_byte b ≡ n
+as_number true n e = e
+as_number false n e = e
+
+-- Turns of the loops that count.
 module _ (set was : TapeSet) (m last : Option Accepted) (es : was ≡ set) (em : last ≡ m) (ls : List WantedLine) (i : ℕ) (d : WantedLine) (lt : i < length ls) (first before : List ℕ) (er : length before ≡ length first) where
   abbrev band : ℕ
   band = (get_or ls i d).band
@@ -99,12 +105,6 @@ module _ (set was : TapeSet) (m last : Option Accepted) (es : was ≡ set) (em :
       ∙ sym (after_lines_push set m (length first) (take i ls) (get_or ls i d) first)
       ∙ ap (λ xs. after_lines set m (length first) xs first) (sym (take_more ls i d lt))
 
-pub delivered_all : (set : TapeSet) (m : Option Accepted) (room : ℕ) (ls : List WantedLine) (i count : ℕ) → count ≡ delivered_of set m room (take i ls) → length ls ≤ i → count ≡ delivered_of set m room ls
-delivered_all set m room ls i count c le = c ∙ ap (delivered_of set m room) (take_all i ls le)
-
-pub after_lines_all : (set : TapeSet) (m : Option Accepted) (room : ℕ) (ls : List WantedLine) (i : ℕ) (first b : List ℕ) → b ≡ after_lines set m room (take i ls) first → length ls ≤ i → b ≡ after_lines set m room ls first
-after_lines_all set m room ls i first b e le = e ∙ ap (λ xs. after_lines set m room xs first) (take_all i ls le)
-
 module _ (set was : TapeSet) (es : was ≡ set) (bs : List WantedBlock) (i : ℕ) (d : WantedBlock) (lt : i < length bs) where
   abbrev there : Option Block
   there = look set (get_or bs i d).reel (get_or bs i d).block
@@ -121,16 +121,9 @@ module _ (set was : TapeSet) (es : was ≡ set) (bs : List WantedBlock) (i : ℕ
   blocks_more first before after b e =
       e ∙ ap (λ x. filled x before) same_look ∙ ap (filled there) b ∙ sym (after_blocks_push set (take i bs) (get_or bs i d) first) ∙ ap (λ xs. after_blocks set xs first) (sym (take_more bs i d lt))
 
-counted_same : (n k : ℕ) (b c : List ℕ) → n ≡ k → b ≡ c → counting n b ≡ counting k c
-counted_same n k b c p q = cc
-
-pub blocks_all : (set : TapeSet) (bs : List WantedBlock) (i count : ℕ) (first b : List ℕ) → count ≡ records_of set (take i bs) → b ≡ after_blocks set (take i bs) first → length bs ≤ i → counting count b ≡ blocks_of bs first set
-blocks_all set bs i count first b c e le =
-    counted_same count (records_of set bs) b (after_blocks set bs first) (c ∙ ap (records_of set) (take_all i bs le)) (e ∙ ap (λ xs. after_blocks set xs first) (take_all i bs le))
-
 -- So far no more were counted than there were.
 pub delivered_fit : (set : TapeSet) (m : Option Accepted) (room : ℕ) (ls : List WantedLine) (i count : ℕ) {n : ℕ} (d : Delivery) → count ≡ delivered_of set m room (take i ls) → n ≡ one_if d → count + n ≤ i + 1
 delivered_fit set m room ls i count d c e = omega (arith, c, e, delivered-few set m room (take i ls), length-take i ls, one_if-few d)
 
-pub records_fit : (set : TapeSet) (bs : List WantedBlock) (i count : ℕ) {n : ℕ} → count ≡ records_of set (take i bs) → n ≤ 1 → count + n ≤ i + 1
-records_fit set bs i count c e = omega (arith, c, e, records_few set (take i bs), length-take i bs)
+pub records_fit : (set : TapeSet) (bs : List WantedBlock) (i count : ℕ) {n : ℕ} (b : Option Block) → count ≡ records_of set (take i bs) → n ≡ one_if_record b → count + n ≤ i + 1
+records_fit set bs i count b c e = omega (arith, c, e, records_few set (take i bs), length-take i bs, one_if_record-few b)

@@ -3,7 +3,7 @@ ghost use Rattle.std.specs.Prelude.{◌≡◌, map, IfOk};
 ghost use Rattle.witness.specs.Replies as replies;
 ghost use Rattle.bridge.specs.Asks.{call_of, question};
 
-use super::copied::buffer;
+use super::buffers::buffer;
 use reader::Call;
 use std::alloc::{AllocError, Global};
 use witness::Asked;

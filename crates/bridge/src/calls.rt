@@ -5,10 +5,9 @@ ghost use Rattle.bridge.specs.Asks.{question};
 ghost use Rattle.bridge.specs.Answers.{sending, sent, played, Put};
 
 use super::ask::{Ask, asked};
-use super::copied::copied;
+use super::stored::opened;
 use super::words::{Told, tell, tell_closed};
 use deck::Deck;
-use image::{Indexed, Strip};
 use std::alloc::{AllocError, Global};
 use witness::play;
 
@@ -20,20 +19,13 @@ fn over<D: Deck + Drop>(heap: Global, deck: D, asks: &[Ask]) -> Result<Told, All
     tell(heap, play(heap, deck, calls)?)
 }
 
-// Opens an image, a strip or (for any other form than 0) an indexed one, and plays the calls to a fresh reader over it.
+// Opens an image, and plays the calls to a fresh reader over it.
 fn played(heap: Global, form: u8, image: &[u8], asks: &[Ask]) -> Result<Told, AllocError>
     ensures { IfOk result (λ t. sending t ≡ played form image.now asks.now) }
 {
-    let bytes = copied(heap, image)?;
-    match form {
-        0 => match Strip::open(bytes) {
-            Ok(deck) => over(heap, deck, asks),
-            Err(unopened) => tell_closed(heap, unopened.refusal),
-        },
-        _ => match Indexed::open(bytes) {
-            Ok(deck) => over(heap, deck, asks),
-            Err(unopened) => tell_closed(heap, unopened.refusal),
-        },
+    match opened(form, Vec::from_slice(heap, image)?) {
+        Ok(deck) => over(heap, deck, asks),
+        Err(unopened) => tell_closed(heap, unopened.refusal),
     }
 }
 

@@ -1,16 +1,14 @@
 // Lines and blocks of an image that are read only to be counted: for measurement.
-ghost use Rattle.std.specs.Prelude.{◌≡◌, ◌≤◌, ◌⊎◌, length};
+ghost use Rattle.std.specs.Prelude.{◌≡◌, ◌⊎◌, cond, length};
 ghost use Rattle.deck.specs.Answers.{filled};
 ghost use Rattle.deck.specs.Tape.{look};
 ghost use Rattle.reader.specs.Bodies.{line_answer, buffer_after};
-ghost use Rattle.bridge.specs.Counts.{after_surveys, one_if, delivered_of, after_lines, one_if_record, counting, lines_of, blocks_of, blocks_through, lines_in, blocks_in};
+ghost use Rattle.bridge.specs.Counts.{after_surveys, one_if, delivered_of, after_lines, one_if_record, counting, lines_of, blocks_of, lines_in, blocks_in};
 
-use super::copied::copied;
+use super::stored::{opened, piled};
 use deck::{Deck, Kind};
-use image::{Indexed, Strip};
 use reader::Reader;
 use std::alloc::Global;
-use turner::Turner;
 
 // What is answered where memory does not suffice.
 pub const NO_MEMORY: u64 = u64::MAX;
@@ -43,17 +41,14 @@ fn surveyed<D: Deck>(deck: D, surveys: u32) -> Reader<D>
     reader
 }
 
-// 1 for a line that the reader delivers, else 0.
-fn delivers<D: Deck>(reader: &mut Reader<D>, wanted: &WantedLine, buffer: &mut [u8]) -> u64
+// Whether the reader delivers a line.
+fn delivers<D: Deck>(reader: &mut Reader<D>, wanted: &WantedLine, buffer: &mut [u8]) -> bool
     ensures stays { D.meaning reader.new.deck ≡ D.meaning reader.old.deck }
     ensures remembers { reader.new.accepted ≡ reader.old.accepted }
-    ensures value { result ≡ one_if (line_answer (D.meaning reader.old.deck) reader.old.accepted wanted.now.band wanted.now.line (length buffer.old)) }
+    ensures value { cond result 1 0 ≡ one_if (line_answer (D.meaning reader.old.deck) reader.old.accepted wanted.now.band wanted.now.line (length buffer.old)) }
     ensures writes { buffer.new ≡ buffer_after (line_answer (D.meaning reader.old.deck) reader.old.accepted wanted.now.band wanted.now.line (length buffer.old)) buffer.old }
 {
-    match reader.line(wanted.band, wanted.line, buffer) {
-        Ok(_) => 1,
-        Err(_) => 0,
-    }
+    reader.line(wanted.band, wanted.line, buffer).is_ok()
 }
 
 // How many of the lines the reader delivers.
@@ -63,7 +58,7 @@ fn delivered<D: Deck>(reader: &mut Reader<D>, lines: &[WantedLine], buffer: &mut
 {
     let mut count = 0;
     for wanted in lines {
-        count += delivers(reader, wanted, buffer);
+        count += u64::from(delivers(reader, wanted, buffer));
     }
     count
 }
@@ -76,17 +71,15 @@ fn lines_of<D: Deck + Drop>(deck: D, surveys: u32, lines: &[WantedLine], buffer:
     delivered(&mut reader, lines, buffer)
 }
 
-// 1 for a block that is a record, else 0. It is fetched; a record that does not fit the buffer is one too.
-fn is_record<D: Deck>(deck: &mut D, wanted: &WantedBlock, buffer: &mut [u8]) -> u64
+// Whether a block is a record. It is fetched; a record that does not fit the buffer is one too.
+fn is_record<D: Deck>(deck: &mut D, wanted: &WantedBlock, buffer: &mut [u8]) -> bool
     ensures stays { D.meaning deck.new ≡ D.meaning deck.old }
-    ensures value { result ≡ one_if_record (look (D.meaning deck.old) wanted.now.reel wanted.now.block) }
-    ensures few { result ≤ 1 }
+    ensures value { cond result 1 0 ≡ one_if_record (look (D.meaning deck.old) wanted.now.reel wanted.now.block) }
     ensures writes { buffer.new ≡ filled (look (D.meaning deck.old) wanted.now.reel wanted.now.block) buffer.old }
 {
     match deck.fetch(wanted.reel, wanted.block, buffer) {
-        Ok(Kind::Record(_)) => 1,
-        Ok(_) => 0,
-        Err(_) => 1,
+        Ok(Kind::Record(_)) | Err(_) => true,
+        Ok(_) => false,
     }
 }
 
@@ -97,25 +90,9 @@ fn blocks_of<D: Deck + Drop>(deck: D, blocks: &[WantedBlock], buffer: &mut [u8])
     let mut deck = deck;
     let mut count = 0;
     for wanted in blocks {
-        count += is_record(&mut deck, wanted, buffer);
+        count += u64::from(is_record(&mut deck, wanted, buffer));
     }
     count
-}
-
-// The same through turners piled on a deck: none, one, or for any other number two.
-fn blocks_through<D: Deck + Drop>(
-    turners: u8,
-    deck: D,
-    blocks: &[WantedBlock],
-    buffer: &mut [u8],
-) -> u64
-    ensures { counting result buffer.new ≡ blocks_through turners blocks.now buffer.old (D.meaning deck) }
-{
-    match turners {
-        0 => blocks_of(deck, blocks, buffer),
-        1 => blocks_of(Turner::new(deck), blocks, buffer),
-        _ => blocks_of(Turner::new(Turner::new(deck)), blocks, buffer),
-    }
 }
 
 // Opens an image, surveys it so many times, and reads lines from it into one buffer. Answers how many were delivered.
@@ -130,18 +107,12 @@ pub extern "C" fn gehunlo_lines(
 ) -> u64
     ensures { ((result ≡ 18446744073709551615) × (buffer.new ≡ buffer.old)) ⊎ (counting result buffer.new ≡ lines_in form image.now surveys lines.now buffer.old) }
 {
-    let Ok(bytes) = copied(heap, image) else {
+    let Ok(bytes) = Vec::from_slice(heap, image) else {
         return NO_MEMORY;
     };
-    match form {
-        0 => match Strip::open(bytes) {
-            Ok(deck) => lines_of(deck, surveys, lines, buffer),
-            Err(_) => 0,
-        },
-        _ => match Indexed::open(bytes) {
-            Ok(deck) => lines_of(deck, surveys, lines, buffer),
-            Err(_) => 0,
-        },
+    match opened(form, bytes) {
+        Ok(deck) => lines_of(deck, surveys, lines, buffer),
+        Err(_) => 0,
     }
 }
 
@@ -157,17 +128,11 @@ pub extern "C" fn gehunlo_blocks(
 ) -> u64
     ensures { ((result ≡ 18446744073709551615) × (buffer.new ≡ buffer.old)) ⊎ (counting result buffer.new ≡ blocks_in form turners image.now blocks.now buffer.old) }
 {
-    let Ok(bytes) = copied(heap, image) else {
+    let Ok(bytes) = Vec::from_slice(heap, image) else {
         return NO_MEMORY;
     };
-    match form {
-        0 => match Strip::open(bytes) {
-            Ok(deck) => blocks_through(turners, deck, blocks, buffer),
-            Err(_) => 0,
-        },
-        _ => match Indexed::open(bytes) {
-            Ok(deck) => blocks_through(turners, deck, blocks, buffer),
-            Err(_) => 0,
-        },
+    match opened(form, bytes) {
+        Ok(deck) => blocks_of(piled(turners, deck), blocks, buffer),
+        Err(_) => 0,
     }
 }

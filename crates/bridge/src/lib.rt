@@ -2,10 +2,12 @@
 #![tactic(auto)]
 
 mod ask;
+mod buffers;
 mod calls;
-mod copied;
 mod counts;
+mod either;
 mod show;
+mod stored;
 mod words;
 
 pub use ask::Ask;

@@ -1,15 +1,14 @@
 // Blocks as a deck shows them.
 ghost use Rattle.std.specs.Prelude.{◌≡◌, ◌⊎◌, length, IfOk};
 ghost use Rattle.bridge.specs.Answers.{sending, Put};
-ghost use Rattle.bridge.specs.Shows.{kind_number, fetch_number, words_of, buffer_of, sent_of, piled, shown};
+ghost use Rattle.bridge.specs.Shows.{kind_number, fetch_number, words_of, buffer_of, sent_of, shown};
 
 use super::calls::put;
-use super::copied::{buffer, copied};
+use super::buffers::buffer;
+use super::stored::{opened, piled};
 use super::words::{Told, tell_closed};
 use deck::{Deck, Kind, Short};
-use image::{Indexed, Strip};
 use std::alloc::{AllocError, Global};
-use turner::Turner;
 
 // A block that is asked for, and the length of the buffer for it.
 #[repr(C)]
@@ -70,31 +69,13 @@ fn asked_of<D: Deck + Drop>(heap: Global, deck: D, fetches: &[Fetch]) -> Result<
     ensures { IfOk result (λ t. sending t ≡ sent_of (D.meaning deck) fetches.now) }
 {
     let mut deck = deck;
-    let mut words = Vec::new(heap);
-    let mut buffers = Vec::new(heap);
-    words.push(deck.reels() as u64)?;
+    let mut told = Told::new(heap);
+    told.add(&[deck.reels() as u64], &[])?;
     for fetch in fetches {
         let seen = look_at(heap, &mut deck, fetch)?;
-        words.extend_from_slice(&seen.words)?;
-        buffers.extend_from_slice(seen.buffer.as_slice())?;
+        told.add(&seen.words, seen.buffer.as_slice())?;
     }
-    Ok(Told { words, buffers })
-}
-
-// Piles turners on a deck, none, one, or for any other number two, and asks for blocks.
-fn through<D: Deck + Drop>(
-    heap: Global,
-    turners: u8,
-    deck: D,
-    fetches: &[Fetch],
-) -> Result<Told, AllocError>
-    ensures { IfOk result (λ t. sending t ≡ sent_of (piled turners (D.meaning deck)) fetches.now) }
-{
-    match turners {
-        0 => asked_of(heap, deck, fetches),
-        1 => asked_of(heap, Turner::new(deck), fetches),
-        _ => asked_of(heap, Turner::new(Turner::new(deck)), fetches),
-    }
+    Ok(told)
 }
 
 // Opens an image and asks it for blocks through turners.
@@ -107,16 +88,9 @@ fn shown(
 ) -> Result<Told, AllocError>
     ensures { IfOk result (λ t. sending t ≡ shown form turners image.now fetches.now) }
 {
-    let bytes = copied(heap, image)?;
-    match form {
-        0 => match Strip::open(bytes) {
-            Ok(deck) => through(heap, turners, deck, fetches),
-            Err(unopened) => tell_closed(heap, unopened.refusal),
-        },
-        _ => match Indexed::open(bytes) {
-            Ok(deck) => through(heap, turners, deck, fetches),
-            Err(unopened) => tell_closed(heap, unopened.refusal),
-        },
+    match opened(form, Vec::from_slice(heap, image)?) {
+        Ok(deck) => asked_of(heap, piled(turners, deck), fetches),
+        Err(unopened) => tell_closed(heap, unopened.refusal),
     }
 }
 

@@ -1,10 +1,10 @@
 // Answers in numbers, as they go over the border.
-ghost use Rattle.std.specs.Prelude.{◌≡◌, [], map, IfOk};
+ghost use Rattle.std.specs.Prelude.{◌≡◌, [], ◌++◌, map, IfOk, OnOk};
 ghost use Rattle.image.specs.Stored.{number};
 ghost use Rattle.reader.specs.Answers.{told_answer, outlined};
 ghost use Rattle.reader.specs.Refusals.{told_refusal};
 ghost use Rattle.witness.specs.Replies.{answered};
-ghost use Rattle.bridge.specs.Answers.{six, fault_words, unopened, all_words, all_buffers};
+ghost use Rattle.bridge.specs.Answers.{one, six, fault_words, unopened, all_words, all_buffers};
 
 use image::Refusal;
 use reader::{Answer, Outline};
@@ -15,23 +15,30 @@ use witness::Answered;
 // An answer takes six words: which one it is, and its numbers.
 pub type Words = [u64; 6];
 
-// A summary: the letters of sensor and correction, as on tape, and the numbers.
+// An answer of one number: which one it is, and the number.
+fn one(which: u64, number: u64) -> Words
+    ensures { result ≡ one which number }
+{
+    [which, number, 0, 0, 0, 0]
+}
+
+// A summary: the letters of sensor and correction, as on tape (of CP and CA the second), and the numbers.
 fn summary(outline: Outline) -> Words
     ensures { result ≡ six (outlined outline) }
 {
     let sensor = match outline.sensor {
-        Sensor::Mss => 77,
-        Sensor::Rbv => 82,
+        Sensor::Mss => b'M',
+        Sensor::Rbv => b'R',
     };
     let correction = match outline.correction {
-        Correction::Corrected => 80,
-        Correction::Uncorrected => 65,
+        Correction::Corrected => b'P',
+        Correction::Uncorrected => b'A',
     };
     [
         1,
-        sensor,
+        sensor as u64,
         outline.mission as u64,
-        correction,
+        correction as u64,
         outline.bands as u64,
         outline.lines as u64,
     ]
@@ -60,9 +67,9 @@ fn words(answer: Result<Answer, reader::Refusal>) -> Words
 {
     match answer {
         Ok(Answer::Outline(outline)) => summary(outline),
-        Ok(Answer::Code(code)) => [2, code as u64, 0, 0, 0, 0],
-        Ok(Answer::Delivered(length)) => [3, length as u64, 0, 0, 0, 0],
-        Ok(Answer::Tally(tally)) => [4, tally, 0, 0, 0, 0],
+        Ok(Answer::Code(code)) => one(2, code as u64),
+        Ok(Answer::Delivered(length)) => one(3, length as u64),
+        Ok(Answer::Tally(tally)) => one(4, tally),
         Err(refusal) => refused(refusal),
     }
 }
@@ -88,21 +95,36 @@ pub struct Told {
     pub buffers: Vec<u8>,
 }
 
+impl Told {
+    // Nothing yet.
+    pub(crate) fn new(heap: Global) -> Told
+        ensures { (result.words.items ≡ []) × (result.buffers.items ≡ []) }
+    {
+        Told {
+            words: Vec::new(heap),
+            buffers: Vec::new(heap),
+        }
+    }
+
+    // Words and the bytes of a buffer go behind those that are there.
+    pub(crate) fn add(&mut self, words: &[u64], buffer: &[u8]) -> Result<(), AllocError>
+        ensures { OnOk result ((self.new.words.items ≡ self.old.words.items ++ words.now) × (self.new.buffers.items ≡ self.old.buffers.items ++ buffer.now)) }
+    {
+        self.words.extend_from_slice(words)?;
+        self.buffers.extend_from_slice(buffer)
+    }
+}
+
 // The answers of a run.
 pub(crate) fn tell(heap: Global, answers: Vec<Answered>) -> Result<Told, AllocError>
     ensures words { IfOk result (λ t. t.words.items ≡ all_words (map answered answers.items)) }
     ensures buffers { IfOk result (λ t. t.buffers.items ≡ all_buffers (map answered answers.items)) }
 {
-    let mut all = Vec::new(heap);
-    let mut buffers = Vec::new(heap);
+    let mut told = Told::new(heap);
     for answered in answers {
-        all.extend_from_slice(&words(answered.answer))?;
-        buffers.extend_from_slice(answered.buffer.as_slice())?;
+        told.add(&words(answered.answer), answered.buffer.as_slice())?;
     }
-    Ok(Told {
-        words: all,
-        buffers,
-    })
+    Ok(told)
 }
 
 // A refused image is one answer, and has no buffer.
@@ -110,10 +132,7 @@ pub(crate) fn tell_closed(heap: Global, refusal: Refusal) -> Result<Told, AllocE
     ensures words { IfOk result (λ t. t.words.items ≡ unopened (number refusal.cause) refusal.offset) }
     ensures buffers { IfOk result (λ t. t.buffers.items ≡ []) }
 {
-    let mut words = Vec::new(heap);
-    words.extend_from_slice(&closed(refusal))?;
-    Ok(Told {
-        words,
-        buffers: Vec::new(heap),
-    })
+    let mut told = Told::new(heap);
+    told.add(&closed(refusal), &[])?;
+    Ok(told)
 }

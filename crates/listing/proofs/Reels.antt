@@ -1,10 +1,9 @@
 -- A reel of a set, and its blocks.
-use Rattle.std.proofs.Common.{◌≡◌, ℕ, zero, suc, ◌+◌, ◌<◌, ◌≤◌, true, false, [], ◌∷◌, length, Some, None, Option, refl, ap, ◌∙◌, add-one, arith}
+use Rattle.std.proofs.Common.{◌≡◌, ℕ, zero, suc, ◌+◌, ◌<◌, ◌≤◌, true, false, [], ◌∷◌, length, Some, None, Option, is_some, sym, refl, ap, ◌∙◌, add-one, arith}
 use Rattle.std.proofs.lemmas.Bool.{eq-eqb, ne_eqb}
 use Rattle.deck.specs.Answers.{kind_of}
 use Rattle.deck.specs.Tape.{Block, written, mark, bad, Reel, TapeSet, Sound, SoundReels, nth, from_one, look_on, look}
 use Rattle.deck.specs.declared.Kind.{Kind}
-use Rattle.deck.specs.declared.Kind.TheVariants.{Absent}
 use Rattle.listing.specs.Blocks.{alike, reel_or_none, reel_of}
 
 on_reel : (o : Option Reel) (block : ℕ) → look_on o block ≡ from_one (reel_or_none o) block
@@ -13,7 +12,7 @@ on_reel None (suc block) = refl
 on_reel (Some reel) block = refl
 
 -- What a deck answers of a block, while its meaning stays.
-pub kind_on : (now set : TapeSet) (reel block : ℕ) (kind : Kind) → now ≡ set → kind ≡ kind_of (look now reel block) → kind ≡ kind_of (from_one (reel_of set reel) block)
+pub kind_on : (now set : TapeSet) (reel block : ℕ) (kind : Option (Kind ℕ)) → now ≡ set → kind ≡ kind_of (look now reel block) → kind ≡ kind_of (from_one (reel_of set reel) block)
 kind_on now set reel block kind stays e = e ∙ ap (λ s. kind_of (look s reel block)) stays ∙ ap kind_of (on_reel (from_one set reel) block)
 
 few_at : (set : TapeSet) (n : ℕ) → SoundReels set → length (reel_or_none (nth set n)) ≤ 65535
@@ -29,17 +28,24 @@ few-blocks set (suc n) s = few_at set n s.reels
 pub behind : (xs : Reel) (n : ℕ) → from_one xs (n + 1) ≡ nth xs n
 behind xs n = ap (from_one xs) (add-one n)
 
-some_kind : (b : Block) → kind_of (Some b) ≡ Absent → ⊥
+some_kind : (b : Block) → kind_of (Some b) ≡ None → ⊥
 some_kind (written bytes) e = let z : ◌≡◌ {A = ℕ} 0 1 = cc in omega arith
 some_kind mark e = let z : ◌≡◌ {A = ℕ} 0 1 = cc in omega arith
 some_kind bad e = let z : ◌≡◌ {A = ℕ} 0 1 = cc in omega arith
 
-pub inside : (xs : Reel) (n : ℕ) → (kind_of (nth xs n) ≡ Absent → ⊥) → n < length xs
+pub not_none : (o : Option (Kind ℕ)) → is_some o ≡ true → o ≡ None → ⊥
+not_none o s n = let z : false ≡ true = sym (ap is_some n) ∙ s in cc
+
+pub is_none : (o : Option (Kind ℕ)) → is_some o ≡ false → o ≡ None
+is_none None e = refl
+is_none (Some k) e = cc
+
+pub inside : (xs : Reel) (n : ℕ) → (kind_of (nth xs n) ≡ None → ⊥) → n < length xs
 inside [] n some = absurd (some refl)
 inside (x ∷ xs) zero some = omega arith
 inside (x ∷ xs) (suc n) some = let h = inside xs n some in omega arith
 
-pub past : (xs : Reel) (n : ℕ) → kind_of (nth xs n) ≡ Absent → length xs ≤ n
+pub past : (xs : Reel) (n : ℕ) → kind_of (nth xs n) ≡ None → length xs ≤ n
 past [] n e = omega arith
 past (x ∷ xs) zero e = absurd (some_kind x e)
 past (x ∷ xs) (suc n) e = let h = past xs n e in omega arith

@@ -3,18 +3,18 @@ use Rattle.std.specs.Prelude.{ℕ, ◌+◌, Bool, true, false, cond, List, [], �
 use Rattle.deck.specs.Answers.{kind_of}
 use Rattle.deck.specs.Tape.{Block, written, mark, bad, Reel, TapeSet, from_one}
 use Rattle.deck.specs.declared.Kind.{Kind}
-use Rattle.deck.specs.declared.Kind.TheVariants.{Record, Mark, Bad, Absent}
+use Rattle.deck.specs.declared.Kind.TheVariants.{Record, Mark, Bad}
 
 -- The word for one, or that for any other number.
 abbrev pub noun_for : ℕ → List ℕ → List ℕ → List ℕ
 noun_for n one many = cond (n == 1) one many
 
--- The line of a run of `n` blocks of a kind.
-abbrev pub run_text : ℕ → Kind → List ℕ
-run_text n (Record size) = decimal n ++ (codes " " ++ (noun_for n (codes "record") (codes "records") ++ (codes " of " ++ (decimal size ++ codes "\n"))))
-run_text n Mark = decimal n ++ (codes " " ++ (noun_for n (codes "mark") (codes "marks") ++ codes "\n"))
-run_text n Bad = decimal n ++ codes " bad\n"
-run_text n Absent = []
+-- The line of a run of `n` blocks of a kind, and nothing where there is no block.
+abbrev pub run_text : ℕ → Option (Kind ℕ) → List ℕ
+run_text n (Some (Record size)) = decimal n ++ (codes " " ++ (noun_for n (codes "record") (codes "records") ++ (codes " of " ++ (decimal size ++ codes "\n"))))
+run_text n (Some Mark) = decimal n ++ (codes " " ++ (noun_for n (codes "mark") (codes "marks") ++ codes "\n"))
+run_text n (Some Bad) = decimal n ++ codes " bad\n"
+run_text n None = []
 
 -- Blocks of the same kind, and records of the same length.
 abbrev pub alike : Block → Block → Bool

@@ -13,8 +13,8 @@ fn noun<'a>(count: u32, one: &'a str, many: &'a str) -> &'a str
 }
 
 // The line of a run.
-fn run_line(heap: Global, count: u32, kind: Kind) -> Result<String, AllocError>
-    ensures { IfOk result (λ t. string_bytes t ≡ run_text count kind) }
+fn run_line(heap: Global, count: u32, kind: Kind<usize>) -> Result<String, AllocError>
+    ensures { IfOk result (λ t. string_bytes t ≡ run_text count (Some kind)) }
 {
     match kind {
         Kind::Record(length) => {
@@ -26,7 +26,6 @@ fn run_line(heap: Global, count: u32, kind: Kind) -> Result<String, AllocError>
             format!(in heap; "{count} {marks}\n")
         }
         Kind::Bad => format!(in heap; "{count} bad\n"),
-        Kind::Absent => Ok(String::new(heap)),
     }
 }
 
@@ -36,7 +35,7 @@ fn count_blocks<D: Deck>(deck: &mut D, reel: u32) -> u32
     ensures value { result ≡ length (reel_of (D.meaning deck.old) reel) }
 {
     let mut count = 0;
-    while deck.kind(reel, count + 1) != Kind::Absent {
+    while deck.kind(reel, count + 1).is_some() {
         count += 1;
     }
     count
@@ -51,13 +50,13 @@ fn runs<D: Deck>(heap: Global, deck: &mut D, reel: u32) -> Result<String, AllocE
     let mut block = 1;
     let mut count = 1;
     let mut kind = deck.kind(reel, block);
-    while kind != Kind::Absent {
+    while let Some(here) = kind {
         block += 1;
         let next = deck.kind(reel, block);
         if next == kind {
             count += 1;
         } else {
-            let line = run_line(heap, count, kind)?;
+            let line = run_line(heap, count, here)?;
             text.push_str(line.as_str())?;
             kind = next;
             count = 1;

@@ -5,5 +5,5 @@ use Rattle.bridge.proofs.show.asked_of.Given as goal
 abbrev pub invariant-loop-fetch : goal.invariant-loop-fetch
 invariant-loop-fetch g l =
     (g.D.Deck.meaning l.deck ≡ g.D.Deck.meaning l.initial.deck)
-    × (vec_items l.words ≡ length (g.D.Deck.meaning l.initial.deck) ∷ words_all (g.D.Deck.meaning l.initial.deck) (take l.fetch-index l.fetches))
-    × (vec_items l.buffers ≡ buffers_all (g.D.Deck.meaning l.initial.deck) (take l.fetch-index l.fetches))
+    × (vec_items l.told.words ≡ length (g.D.Deck.meaning l.initial.deck) ∷ words_all (g.D.Deck.meaning l.initial.deck) (take l.fetch-index l.fetches))
+    × (vec_items l.told.buffers ≡ buffers_all (g.D.Deck.meaning l.initial.deck) (take l.fetch-index l.fetches))

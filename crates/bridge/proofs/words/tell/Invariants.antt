@@ -5,4 +5,4 @@ use Rattle.bridge.proofs.words.tell.Given as goal
 
 abbrev pub invariant-loop-answered : goal.invariant-loop-answered
 invariant-loop-answered l =
-    (vec_items l.all ≡ all_words (map answered l.yielded)) × (vec_items l.buffers ≡ all_buffers (map answered l.yielded))
+    (vec_items l.told.words ≡ all_words (map answered l.yielded)) × (vec_items l.told.buffers ≡ all_buffers (map answered l.yielded))

@@ -1,8 +1,7 @@
-use Rattle.std.proofs.Common.{◌≡◌, ◌+◌, ◌<◌, length, sym, refl, ap, ◌∙◌, arith, rules}
+use Rattle.std.proofs.Common.{◌≡◌, ◌+◌, ◌<◌, length, None, sym, refl, ap, ◌∙◌, arith}
 use Rattle.deck.specs.Answers.{kind_of}
-use Rattle.deck.specs.declared.Kind.TheVariants.{Absent}
 use Rattle.listing.specs.Blocks.{reel_of}
-use Rattle.listing.proofs.Reels.{few-blocks, kind_on, behind, inside, past}
+use Rattle.listing.proofs.Reels.{few-blocks, kind_on, behind, inside, past, not_none, is_none}
 use Rattle.listing.proofs.runs.count_blocks.Given as given
 use Rattle.listing.proofs.runs.count_blocks.Goals as goal
 
@@ -17,7 +16,7 @@ more : (g : given.Over) (c : goal.In-loop-count g) → c.loop-count.count < leng
 more g c =
     let set = g.D.Deck.meaning c.args.deck.now in
     let xs = reel_of set c.args.reel in
-    let some : c.kind.result ≡ Absent → ⊥ = search rules in
+    let some = not_none c.kind.result (sym c.is_some.ensures ∙ c.loop-count-test.true) in
     let is = kind_on (g.D.Deck.meaning c.loop-count.deck) set c.args.reel (c.loop-count.count + 1) c.kind.result c.loop-count.invariant.0 c.kind.ensures.value in
     inside xs c.loop-count.count (λ e. some (is ∙ ap kind_of (behind xs c.loop-count.count) ∙ e))
 
@@ -34,7 +33,7 @@ pub returns : goal.returns
 returns g c =
     let set = g.D.Deck.meaning c.args.deck.now in
     let xs = reel_of set c.args.reel in
-    let none : c.kind.result ≡ Absent = search rules in
+    let none = is_none c.kind.result (sym c.is_some.ensures ∙ c.loop-count-test.false) in
     let is = kind_on (g.D.Deck.meaning c.loop-count.deck) set c.args.reel (c.loop-count.count + 1) c.kind.result c.loop-count.invariant.0 c.kind.ensures.value in
     let all = past xs c.loop-count.count (ap kind_of (sym (behind xs c.loop-count.count)) ∙ sym is ∙ none) in
     record { stays = c.kind.ensures.stays ∙ c.loop-count.invariant.0; value = omega (arith, all, c.loop-count.invariant.1) }
