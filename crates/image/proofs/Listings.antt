@@ -12,7 +12,7 @@ use Rattle.image.specs.Opened.{indexed_set}
 use Rattle.image.specs.Stored.{stored_as}
 use Rattle.image.specs.declared.indexed.Indexed.{Indexed}
 use Rattle.image.proofs.Indices.{judged}
-use Rattle.image.proofs.Openings.{is_set}
+use Rattle.image.specs.Stored.{is_set}
 use Rattle.deck.proofs.Looks.{block_sound, reel_sound}
 use Rattle.image.proofs.Places.{joined_at, stored_there, looked}
 

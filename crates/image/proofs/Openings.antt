@@ -1,17 +1,12 @@
 -- That a strip opens exactly where it is an encoding.
-use Rattle.std.specs.Prelude.{◌≡◌, ℕ, true, List, is_ok, Ok, Err, refl}
+use Rattle.std.specs.Prelude.{◌≡◌, ℕ, List, Ok, Err, refl}
 use Rattle.std.proofs.Common.{sym, ap, subst, ◌∙◌, arith}
 use Rattle.deck.specs.Tape.{TapeSet, Sound}
 use Rattle.image.specs.Cursor.{Reads, Stands}
 use Rattle.image.specs.Opened.{Exactly}
-use Rattle.image.specs.Stored.{Verdict, set_of}
+use Rattle.image.specs.Stored.{Verdict}
 use Rattle.image.specs.Strip.{encoded, verdict, meant}
 use Rattle.image.proofs.Strips.{judged_sound, judged_encoded}
-
--- A verdict that is a set is that of its own set.
-pub is_set : (v : Verdict TapeSet) → is_ok v ≡ true → v ≡ Ok (set_of v)
-is_set (Ok set) e = refl
-is_set (Err e) h = let z : ◌≡◌ {A = ℕ} 0 1 = cc in absurd (omega arith)
 
 same_set : (v : Verdict TapeSet) (s t : TapeSet) → v ≡ Ok s → v ≡ Ok t → s ≡ t
 same_set v s t p q = cc

@@ -1,5 +1,6 @@
 -- What both images share: kind words, and the numbers of their refusals.
-use Rattle.std.specs.Prelude.{ℕ, ◌≤◌, cond, List, [], length, take, Some, None, Ok, Err, Option, Result, ◌==◌, nat_le}
+use Rattle.std.specs.Prelude.{◌≡◌, ℕ, ◌≤◌, true, cond, List, [], length, take, is_ok, Some, None, Ok, Err, Option, Result, ◌==◌, nat_le, refl}
+use Rattle.std.proofs.lemmas.Bool.{false≢true}
 use Rattle.deck.specs.Tape.{Block, written, mark, bad, TapeSet}
 use Rattle.image.specs.declared.refusal.Cause.{Cause}
 use Rattle.image.specs.declared.refusal.Cause.TheVariants.{CutShort, IllegalWord, OverLimit, OutsideImage}
@@ -26,6 +27,11 @@ numbered (Err e) = Err (number e.cause, e.offset)
 abbrev pub set_of : Verdict TapeSet → TapeSet
 set_of (Ok set) = set
 set_of (Err _) = []
+
+-- A verdict that is a set is that of its own set.
+pub is_set : (v : Verdict TapeSet) → is_ok v ≡ true → v ≡ Ok (set_of v)
+is_set (Ok set) e = refl
+is_set (Err e) h = absurd (false≢true h)
 
 -- What a kind word says: 0 a mark, 4,294,967,295 a bad block, 1 to 5,388 a record of that length, and nothing else.
 abbrev pub stored : ℕ → Option (Kind ℕ)

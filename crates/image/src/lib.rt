@@ -6,6 +6,7 @@ mod cursor;
 mod found;
 mod indexed;
 mod next;
+mod opened;
 mod refusal;
 mod scan;
 mod stored;
@@ -13,5 +14,8 @@ mod strip;
 mod word;
 
 pub use indexed::Indexed;
+pub use next::REEL_END;
+pub use opened::Image;
 pub use refusal::{Cause, Refusal, Unopened};
+pub use stored::{BAD, MARK};
 pub use strip::Strip;

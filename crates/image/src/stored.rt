@@ -4,13 +4,18 @@ ghost use Rattle.image.specs.Stored.{stored};
 
 use deck::Kind;
 
+// The kind word of a tape mark, and that of a bad block. Any other kind word is a record's length.
+pub const MARK: u32 = 0;
+
+pub const BAD: u32 = 4294967295;
+
 // What a kind word says, or none where it is no kind word.
 pub(crate) fn stored_by(word: u32) -> Option<Kind<usize>>
     ensures { result ≡ stored word }
 {
     match word {
-        0 => Some(Kind::Mark),
-        4294967295 => Some(Kind::Bad),
+        MARK => Some(Kind::Mark),
+        BAD => Some(Kind::Bad),
         1..=5388 => Some(Kind::Record(word as usize)),
         _ => None,
     }

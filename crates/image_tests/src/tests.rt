@@ -2,7 +2,7 @@
 ghost use Rattle.std.specs.Prelude.{◌≤◌};
 
 use deck::{Deck, Kind, Short};
-use image::{Indexed, Strip, Unopened};
+use image::{Image, Indexed, Strip};
 use std::alloc::{AllocError, Global};
 use std::process::Abort;
 use std::test::Fail;
@@ -17,29 +17,29 @@ fn spelt(heap: Global, words: &[u32], tail: &[u8]) -> Result<Vec<u8>, AllocError
     Ok(bytes)
 }
 
-// An image was refused with this number and place, and its bytes came back.
-fn refused<D: Drop>(
+// Bytes are refused as an image, with this number and place, and they come back.
+fn refused<I: Image + Drop>(
     rt: &impl Abort,
-    opened: Result<D, Unopened>,
-    bytes: &[u8],
+    bytes: Vec<u8>,
     number: u32,
     offset: usize,
 ) -> Result<(), Fail> {
-    match opened {
+    let given = bytes.clone()?;
+    match I::open(bytes) {
         Ok(_) => Err(Fail::new("it opened")),
         Err(e) => {
             assert_eq!(rt; e.refusal.cause.number(), number);
             assert_eq!(rt; e.refusal.offset, offset);
-            assert!(rt; e.bytes.as_slice() == bytes);
+            assert!(rt; e.bytes.as_slice() == given.as_slice());
             Ok(())
         }
     }
 }
 
-// An image was opened.
-fn opened<D>(opened: Result<D, Unopened>) -> Result<D, &'static str> {
-    match opened {
-        Ok(deck) => Ok(deck),
+// The image that bytes are.
+fn opened<I: Image>(bytes: Vec<u8>) -> Result<I, &'static str> {
+    match I::open(bytes) {
+        Ok(image) => Ok(image),
         Err(_) => Err("it was refused"),
     }
 }
@@ -62,13 +62,7 @@ fn strips_refused(rt: HostRuntime) -> Result<(), Fail> {
         (b"\xff\xff\xff\xfe\xff\xff\xff\xff", 1, 8),
     ];
     for (bytes, number, offset) in cases {
-        refused(
-            &rt,
-            Strip::open(Vec::from_slice(heap, bytes)?),
-            bytes,
-            number,
-            offset,
-        )?;
+        refused::<Strip>(&rt, Vec::from_slice(heap, bytes)?, number, offset)?;
     }
     Ok(())
 }
@@ -101,9 +95,7 @@ fn indexed_refused(rt: HostRuntime) -> Result<(), Fail> {
         (&[2, 1, 1, 0, 0, 27, 1], b"a", 4, 24),
     ];
     for (words, tail, number, offset) in cases {
-        let bytes = spelt(heap, words, tail)?;
-        let given = bytes.clone()?;
-        refused(&rt, Indexed::open(bytes), given.as_slice(), number, offset)?;
+        refused::<Indexed>(&rt, spelt(heap, words, tail)?, number, offset)?;
     }
     Ok(())
 }
@@ -113,17 +105,12 @@ fn indexed_refused(rt: HostRuntime) -> Result<(), Fail> {
 fn nine_reels(rt: HostRuntime) -> Result<(), Fail> {
     let heap = rt.alloc();
     let ends = [4294967294; 9];
-    let mut strip = opened(Strip::open(spelt(heap, &ends, b"")?))?;
+    let mut strip: Strip = opened(spelt(heap, &ends, b"")?)?;
     assert_eq!(rt; strip.reels(), 9);
     assert_eq!(rt; strip.kind(9, 1), None);
-    let more = spelt(heap, &ends, b"\0")?;
-    let given = more.clone()?;
-    refused(&rt, Strip::open(more), given.as_slice(), 3, 36)?;
-    let mut indexed = opened(Indexed::open(spelt(
-        heap,
-        &[9, 0, 0, 0, 0, 0, 0, 0, 0, 0],
-        b"free",
-    )?))?;
+    refused::<Strip>(&rt, spelt(heap, &ends, b"\0")?, 3, 36)?;
+    let bytes = spelt(heap, &[9, 0, 0, 0, 0, 0, 0, 0, 0, 0], b"free")?;
+    let mut indexed: Indexed = opened(bytes)?;
     assert_eq!(rt; indexed.reels(), 9);
     Ok(())
 }
@@ -149,19 +136,15 @@ fn index_of_marks(heap: Global, marks: u32) -> Result<Vec<u8>, AllocError>
 #[test]
 fn most_blocks(rt: HostRuntime) -> Result<(), Fail> {
     let heap = rt.alloc();
-    let mut strip = opened(Strip::open(strip_of_marks(heap, 65535)?))?;
+    let mut strip: Strip = opened(strip_of_marks(heap, 65535)?)?;
     assert_eq!(rt; strip.kind(1, 65535), Some(Kind::Mark));
     assert_eq!(rt; strip.kind(1, 65536), None);
     assert_eq!(rt; strip.kind(1, 1), Some(Kind::Mark));
-    let long = strip_of_marks(heap, 65536)?;
-    let given = long.clone()?;
-    refused(&rt, Strip::open(long), given.as_slice(), 3, 262140)?;
-    let mut indexed = opened(Indexed::open(index_of_marks(heap, 65535)?))?;
+    refused::<Strip>(&rt, strip_of_marks(heap, 65536)?, 3, 262140)?;
+    let mut indexed: Indexed = opened(index_of_marks(heap, 65535)?)?;
     assert_eq!(rt; indexed.kind(1, 65535), Some(Kind::Mark));
     assert_eq!(rt; indexed.kind(1, 65536), None);
-    let many = index_of_marks(heap, 65536)?;
-    let again = many.clone()?;
-    refused(&rt, Indexed::open(many), again.as_slice(), 3, 4)
+    refused::<Indexed>(&rt, index_of_marks(heap, 65536)?, 3, 4)
 }
 
 // One set in both images: a record, a mark and a bad block; no block; two records and a mark.
@@ -170,12 +153,12 @@ fn strip(heap: Global) -> Result<Strip, Fail> {
         heap,
         b"\0\0\0\x03abc\0\0\0\x03\0\0\0\0\xff\xff\xff\xff\xff\xff\xff\xfe\xff\xff\xff\xfe\0\0\0\x01z\0\0\0\x01\0\0\0\x05hello\0\0\0\x05\0\0\0\0\xff\xff\xff\xfe",
     )?;
-    Ok(opened(Strip::open(bytes))?)
+    Ok(opened(bytes)?)
 }
 
 fn indexed(heap: Global) -> Result<Indexed, Fail> {
     let words = [3, 3, 0, 3, 64, 3, 0, 0, 0, 4294967295, 72, 1, 67, 5, 0, 0];
-    Ok(opened(Indexed::open(spelt(heap, &words, b"abchelloz")?))?)
+    Ok(opened(spelt(heap, &words, b"abchelloz")?)?)
 }
 
 // What a deck answers of each place of that set, and a buffer of eight dashes after a fetch.
@@ -302,16 +285,16 @@ fn longest_record(rt: HostRuntime) -> Result<(), Fail> {
     let heap = rt.alloc();
     let mut strip = spelt(heap, &[5388], &[7; 5388])?;
     strip.extend_from_slice(b"\0\0\x15\x0c\xff\xff\xff\xfe")?;
-    longest(&rt, &mut opened(Strip::open(strip))?);
+    longest(&rt, &mut opened::<Strip>(strip)?);
     let indexed = spelt(heap, &[1, 1, 16, 5388], &[7; 5388])?;
-    longest(&rt, &mut opened(Indexed::open(indexed))?);
+    longest(&rt, &mut opened::<Indexed>(indexed)?);
     Ok(())
 }
 
 // Records of an indexed image may overlap, and bytes that no entry names are free.
 #[test]
 fn overlapping(rt: HostRuntime) -> Result<(), Fail> {
-    let mut indexed = opened(Indexed::open(spelt(rt.alloc(), &[1, 2, 25, 3, 26, 3], b"-abcd-")?))?;
+    let mut indexed: Indexed = opened(spelt(rt.alloc(), &[1, 2, 25, 3, 26, 3], b"-abcd-")?)?;
     let mut buffer = *b"----";
     assert_eq!(rt; indexed.fetch(1, 2, &mut buffer), Ok(Some(Kind::Record(3))));
     assert_eq!(rt; buffer, *b"bcd-");
@@ -321,17 +304,17 @@ fn overlapping(rt: HostRuntime) -> Result<(), Fail> {
 }
 
 // The bytes come back.
+fn back<I: Image>(rt: &impl Abort, bytes: Vec<u8>, expected: &[u8]) -> Result<(), Fail> {
+    let image: I = opened(bytes)?;
+    assert!(rt; image.into_bytes().as_slice() == expected);
+    Ok(())
+}
+
 #[test]
 fn bytes_back(rt: HostRuntime) -> Result<(), Fail> {
-    let bytes = spelt(rt.alloc(), &[0, 4294967294], b"")?;
-    assert!(rt;
-        opened(Strip::open(bytes))?.into_bytes().as_slice()
-            == b"\0\0\0\0\xff\xff\xff\xfe".as_slice()
-    );
-    let bytes = spelt(rt.alloc(), &[1, 1, 16, 1], b"a!")?;
-    assert!(rt;
-        opened(Indexed::open(bytes))?.into_bytes().as_slice()
-            == b"\0\0\0\x01\0\0\0\x01\0\0\0\x10\0\0\0\x01a!".as_slice()
-    );
-    Ok(())
+    let heap = rt.alloc();
+    let strip = spelt(heap, &[0, 4294967294], b"")?;
+    back::<Strip>(&rt, strip, b"\0\0\0\0\xff\xff\xff\xfe")?;
+    let indexed = spelt(heap, &[1, 1, 16, 1], b"a!")?;
+    back::<Indexed>(&rt, indexed, b"\0\0\0\x01\0\0\0\x01\0\0\0\x10\0\0\0\x01a!")
 }

@@ -1,20 +1,24 @@
 // Opening a strip.
-ghost use Rattle.std.specs.Prelude.{◌≡◌};
-ghost use Rattle.image.specs.Opened.{strip_set, told, held, Exactly};
+ghost use Rattle.std.specs.Prelude.{◌≡◌, vec_items};
+ghost use Rattle.image.specs.Stored.{is_set};
 ghost use Rattle.image.specs.Strip.{encoded, verdict};
 
 use super::super::cursor::Cursor;
+use super::super::opened::Image;
 use super::super::refusal::Unopened;
 use super::super::scan::scan;
 use super::Strip;
 
-impl Strip {
-    // A strip over these bytes, or the first check that fails, with the bytes.
-    pub fn open(bytes: Vec<u8>) -> Result<Strip, Unopened>
-        ensures says { told result strip_set ≡ verdict bytes.items }
-        ensures keeps { held result (λ s. s.bytes) ≡ bytes }
-        ensures exactly { Exactly (λ set. encoded set ≡ bytes.items) (told result strip_set) }
-    {
+impl Image for Strip {
+    ghost judged = { verdict };
+
+    ghost encodes = { λ bytes set. encoded set ≡ bytes };
+
+    ghost source = { λ s. s.bytes };
+
+    ghost means = { λ s. is_set (verdict (vec_items s.bytes)) s.judged };
+
+    fn open(bytes: Vec<u8>) -> Result<Strip, Unopened> {
         match scan(bytes.as_slice()) {
             Ok(chart) => {
                 let cursor = Cursor {
@@ -32,10 +36,7 @@ impl Strip {
         }
     }
 
-    // The bytes that the strip was opened from.
-    pub fn into_bytes(self) -> Vec<u8>
-        ensures { result ≡ self.bytes }
-    {
+    fn into_bytes(self) -> Vec<u8> {
         self.bytes
     }
 }

@@ -2,7 +2,7 @@ use Rattle.std.proofs.Common.{◌≡◌, ◌<◌, [], length, get_or, vec_items,
 use Rattle.image.specs.Cursor.{Stands}
 use Rattle.image.specs.Opened.{strip_set}
 use Rattle.image.specs.Strip.{verdict}
-use Rattle.image.proofs.Openings.{is_set}
+use Rattle.image.specs.Stored.{is_set}
 use Rattle.image.proofs.Places.{found_there}
 use Rattle.image.proofs.strip.Strip.wind_to.Goals as goal
 

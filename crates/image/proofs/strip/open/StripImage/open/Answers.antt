@@ -4,7 +4,7 @@ use Rattle.image.specs.Stored.{number}
 use Rattle.image.specs.Strip.{verdict, meant}
 use Rattle.image.proofs.Openings.{exactly_opened, exactly_refused, at_start}
 use Rattle.image.proofs.Strips.{judged_sound}
-use Rattle.image.proofs.strip.Strip.open.Goals as goal
+use Rattle.image.proofs.strip.open.StripImage.open.Goals as goal
 
 pub invariant_of-result : goal.invariant_of-result
 invariant_of-result c =

@@ -4,9 +4,9 @@ use Rattle.image.specs.Opened.{Exactly}
 use Rattle.image.specs.Stored.{number}
 use Rattle.image.proofs.Indices.{exactly_judged}
 use Rattle.image.proofs.Listings.{opened}
-use Rattle.image.proofs.Openings.{is_set}
+use Rattle.image.specs.Stored.{is_set}
 use Rattle.image.proofs.Rows.{and_then_ok, passed_err}
-use Rattle.image.proofs.indexed.Indexed.open.Goals as goal
+use Rattle.image.proofs.indexed.open.IndexedImage.open.Goals as goal
 
 pub invariant_of-result : goal.invariant_of-result
 invariant_of-result c =
