@@ -20,8 +20,8 @@ use Rattle.image.proofs.Places.{joined_at, stored_there, looked}
 pub opened : (xs : List ℕ) → is_ok (verdict xs) ≡ true → Sound (meant xs) × Encodes xs (meant xs)
 opened xs o = judged xs (meant xs) (is_set (verdict xs) o)
 
-pub held : (i : Indexed) → Sound (indexed_set i) × Encodes (vec_items i.bytes) (indexed_set i)
-held i = opened (vec_items i.bytes) i.judged
+pub is_image : (i : Indexed) → Sound (indexed_set i) × Encodes (vec_items i.bytes) (indexed_set i)
+is_image i = opened (vec_items i.bytes) i.judged
 
 -- A block of a reel among all blocks of the set.
 module _ (set : TapeSet) (r b : ℕ) (on_reel : r < length set) (on_block : b < length (slice_index_or set r [])) where
@@ -61,7 +61,7 @@ pub listed_there : (i : Indexed) (reel block r b reels before : ℕ) → (1 ≤ 
 listed_there i reel block r b reels before hr hb on_reel on_block many is =
     let xs = vec_items i.bytes in
     let set = indexed_set i in
-    let e = held i in
+    let e = is_image i in
     let it = get_or (slice_index_or set r []) b mark in
     let entry = before + b in
     let at = 4 + 4 * reels + 8 * entry in

@@ -1,5 +1,5 @@
 -- What a scan of a strip keeps from word to word.
-use Rattle.std.proofs.Common.{◌≡◌, ℕ, zero, suc, ◌+◌, ◌<◌, ◌≤◌, List, [], ◌∷◌, ◌++◌, length, get_or, take, drop, set, Ok, Err, sym, refl, ap, ◌∙◌, subst, ⊎_elim, arith, lit≤, length-append, length-drop, length-set, length-take}
+use Rattle.std.proofs.Common.{◌≡◌, ℕ, zero, suc, ◌+◌, ◌<◌, ◌≤◌, List, [], ◌∷◌, ◌++◌, length, get_or, take, drop, set, Some, None, Ok, Err, Option, sym, refl, ap, ◌∙◌, subst, ⊎_elim, arith, lit≤, length-append, length-drop, length-set, length-take}
 use Rattle.std.specs.List.{flat_map}
 use Rattle.std.proofs.lemmas.List.{drop-drop, take-append-le, take_all, get_or-set_same, get_or-set_other, get_or_append_left, get_or_at}
 use Rattle.std.proofs.lemmas.Bool.{cases_eq}
@@ -12,7 +12,7 @@ use Rattle.image.specs.declared.chart.Chart.{Chart}
 use Rattle.deck.specs.declared.Kind.{Kind}
 use Rattle.deck.specs.declared.Kind.TheVariants.{Record, Mark, Bad}
 use Rattle.image.specs.declared.next.Next.{Next}
-use Rattle.image.specs.declared.next.Next.TheVariants.{Finished, ReelEnds, Holds}
+use Rattle.image.specs.declared.next.Next.TheVariants.{ReelEnds, Holds}
 use Rattle.image.proofs.Words.{Bytes}
 use Rattle.image.proofs.Strips.{ends, held, Closed, encoded_more, blocks_more, judged_spells}
 
@@ -83,12 +83,12 @@ going_start xs = record {
 }
 
 -- One word more is read.
-unrolled : (xs : List ℕ) (reels : TapeSet) (reel : Reel) (at words : ℕ) (v : Verdict Next) → length xs < at + words → at ≤ length xs → judge words reels reel at (drop at xs) ≡ verdict xs → next at (length reels) (length reel) (drop at xs) ≡ v → (left : ℕ) × (words ≡ suc left) × (follow (judge left) reels reel at (drop at xs) v ≡ verdict xs)
+unrolled : (xs : List ℕ) (reels : TapeSet) (reel : Reel) (at words : ℕ) (v : Verdict (Option Next)) → length xs < at + words → at ≤ length xs → judge words reels reel at (drop at xs) ≡ verdict xs → next at (length reels) (length reel) (drop at xs) ≡ v → (left : ℕ) × (words ≡ suc left) × (follow (judge left) reels reel at (drop at xs) v ≡ verdict xs)
 unrolled xs reels reel at zero v enough inside judged n = absurd (omega arith)
 unrolled xs reels reel at (suc words) v enough inside judged n = (words, refl, ap (follow (judge words) reels reel at (drop at xs)) (sym n) ∙ judged)
 
 -- The word that is read, at the counts that the code has.
-at_counts : (xs : List ℕ) (c : Chart) (blocks at : ℕ) (v : Verdict Next) (g : Going xs c blocks at) → next at c.reels blocks (drop at xs) ≡ v → next at (length g.reels) (length g.reel) (drop at xs) ≡ v
+at_counts : (xs : List ℕ) (c : Chart) (blocks at : ℕ) (v : Verdict (Option Next)) (g : Going xs c blocks at) → next at c.reels blocks (drop at xs) ≡ v → next at (length g.reels) (length g.reel) (drop at xs) ≡ v
 at_counts xs c blocks at v g n = subst (λ m. next at (length g.reels) m (drop at xs) ≡ v) g.counted (subst (λ m. next at m blocks (drop at xs) ≡ v) g.charted.many n)
 
 pub going_refused : (xs : List ℕ) (c : Chart) (blocks at : ℕ) (e : ℕ × ℕ) → Going xs c blocks at → next at c.reels blocks (drop at xs) ≡ Err e → verdict xs ≡ Err e
@@ -96,9 +96,9 @@ going_refused xs c blocks at e g n =
     let u = unrolled xs g.reels g.reel at g.words (Err e) g.enough g.inside g.judged (at_counts xs c blocks at (Err e) g n) in
     sym u.2
 
-pub going_finished : (xs : List ℕ) (c : Chart) (blocks at : ℕ) → Bytes xs → Going xs c blocks at → next at c.reels blocks (drop at xs) ≡ Ok Finished → Scanned xs c
+pub going_finished : (xs : List ℕ) (c : Chart) (blocks at : ℕ) → Bytes xs → Going xs c blocks at → next at c.reels blocks (drop at xs) ≡ Ok None → Scanned xs c
 going_finished xs c blocks at b g n =
-    let u = unrolled xs g.reels g.reel at g.words (Ok Finished) g.enough g.inside g.judged (at_counts xs c blocks at (Ok Finished) g n) in
+    let u = unrolled xs g.reels g.reel at g.words (Ok None) g.enough g.inside g.judged (at_counts xs c blocks at (Ok None) g n) in
     let is : verdict xs ≡ Ok g.reels = sym u.2 in
     let meant_is : meant xs ≡ g.reels = ap set_of is in
     record {
@@ -106,10 +106,10 @@ going_finished xs c blocks at b g n =
       charted = subst (λ s. Charts s c) (sym meant_is) g.charted;
     }
 
-pub going_ends : (xs : List ℕ) (c : Chart) (blocks at : ℕ) → Going xs c blocks at → next at c.reels blocks (drop at xs) ≡ Ok ReelEnds → Going xs (with_reel c blocks (at + 4)) 0 (at + 4)
+pub going_ends : (xs : List ℕ) (c : Chart) (blocks at : ℕ) → Going xs c blocks at → next at c.reels blocks (drop at xs) ≡ Ok (Some ReelEnds) → Going xs (with_reel c blocks (at + 4)) 0 (at + 4)
 going_ends xs c blocks at g n =
-    let n' = at_counts xs c blocks at (Ok ReelEnds) g n in
-    let u = unrolled xs g.reels g.reel at g.words (Ok ReelEnds) g.enough g.inside g.judged n' in
+    let n' = at_counts xs c blocks at (Ok (Some ReelEnds)) g n in
+    let u = unrolled xs g.reels g.reel at g.words (Ok (Some ReelEnds)) g.enough g.inside g.judged n' in
     let e = ends at (length g.reels) (length g.reel) (drop at xs) n' in
     let more : length (encoded (g.reels ++ g.reel ∷ [])) ≡ length (encoded g.reels) + (length (flat_map block_bytes g.reel) + 4) = ap length (encoded_more g.reels g.reel) ∙ simp length-append in
     let there : at + 4 ≡ length (encoded (g.reels ++ g.reel ∷ [])) = omega (arith, more, g.here) in
@@ -144,10 +144,10 @@ block-length (Record n) xs c =
 block-length Mark xs c = refl
 block-length Bad xs c = refl
 
-pub going_holds : (xs : List ℕ) (c : Chart) (blocks at : ℕ) (s : Kind ℕ) → Going xs c blocks at → next at c.reels blocks (drop at xs) ≡ Ok (Holds s) → Going xs c (blocks + 1) (at + size s)
+pub going_holds : (xs : List ℕ) (c : Chart) (blocks at : ℕ) (s : Kind ℕ) → Going xs c blocks at → next at c.reels blocks (drop at xs) ≡ Ok (Some (Holds s)) → Going xs c (blocks + 1) (at + size s)
 going_holds xs c blocks at s g n =
-    let n' = at_counts xs c blocks at (Ok (Holds s)) g n in
-    let u = unrolled xs g.reels g.reel at g.words (Ok (Holds s)) g.enough g.inside g.judged n' in
+    let n' = at_counts xs c blocks at (Ok (Some (Holds s))) g n in
+    let u = unrolled xs g.reels g.reel at g.words (Ok (Some (Holds s))) g.enough g.inside g.judged n' in
     let h = held at (length g.reels) (length g.reel) (drop at xs) s n' in
     let b = block s (drop 4 (drop at xs)) in
     let fits = size_inside s (drop at xs) h.whole h.closing in

@@ -28,9 +28,8 @@ pub(crate) fn scan(bytes: &[u8]) -> Result<Chart, Refusal>
     let mut chart = Chart::new();
     let mut blocks = 0;
     let mut at = 0;
-    loop {
-        match next_word(bytes, at, chart.reels, blocks)? {
-            Next::Finished => return Ok(chart),
+    while let Some(next) = next_word(bytes, at, chart.reels, blocks)? {
+        match next {
             Next::ReelEnds => {
                 at += 4;
                 chart.add(blocks, at);
@@ -42,4 +41,5 @@ pub(crate) fn scan(bytes: &[u8]) -> Result<Chart, Refusal>
             }
         }
     }
+    Ok(chart)
 }

@@ -9,6 +9,7 @@ use super::cursor::Cursor;
 
 mod open;
 mod reading;
+mod winding;
 
 // A strip, opened. Its bytes are the encoding of a sound set; the chart says where each reel lies; the cursor stands where the last
 // block was read, so that the next one is near.

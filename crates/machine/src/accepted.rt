@@ -45,7 +45,7 @@ impl Machine {
         };
         Machine {
             reels,
-            expect: Expect::Directory(Onward::Header),
+            expect: Expect::Directory(Some(Onward::Header)),
             directory: [0; DIRECTORY_LENGTH],
             layout: Layout {
                 form: Form::Sequential,
@@ -65,8 +65,7 @@ impl Machine {
     {
         match self.layout.form {
             Form::Interleaved => self.group.blocks / self.layout.stride(),
-            Form::Sequential => self.group.blocks,
-            Form::Vidicon => self.group.blocks,
+            Form::Sequential | Form::Vidicon => self.group.blocks,
         }
     }
 

@@ -58,8 +58,7 @@ impl Machine {
     {
         match self.layout.form {
             Form::Interleaved => MOST_LINES * self.layout.stride(),
-            Form::Sequential => MOST_LINES,
-            Form::Vidicon => MOST_LINES,
+            Form::Sequential | Form::Vidicon => MOST_LINES,
         }
     }
 
@@ -84,7 +83,7 @@ impl Machine {
         ensures says { stepped result self.new ≡ on_image self.old at bytes.now }
         ensures stays_steady { Steady self.old → OnOk result (Steady self.new) }
     {
-        let number = self.group.blocks as u64 + 1;
+        let number = u64::from(self.group.blocks) + 1;
         check(bytes, self.layout.form.record_length(), IMAGE, number)?;
         let zero = !self.misses() || zero_body(bytes);
         self.line(at, zero)?;
@@ -128,7 +127,7 @@ impl Machine {
     {
         check(bytes, self.layout.form.record_length(), TRAILER, 1)?;
         if !self.lines_agree() {
-            return Err(Cause::Set(SetFault::Lines));
+            return Err(SetFault::Lines.into());
         }
         self.group.trailer = at;
         self.expect = self.behind_trailer(1);
@@ -143,7 +142,7 @@ impl Machine {
             bytes,
             self.layout.form.record_length(),
             TRAILER,
-            number as u64,
+            u64::from(number),
         )?;
         self.expect = self.behind_trailer(number);
         Ok(())
@@ -155,7 +154,7 @@ impl Machine {
         ensures stays_steady { Steady self.old → OnOk result (Steady self.new) }
     {
         match bytes.get(5) {
-            Some(kind) if *kind == TRAILER => self.first_trailer(at, bytes),
+            Some(&TRAILER) => self.first_trailer(at, bytes),
             _ => self.image(at, bytes),
         }
     }

@@ -8,21 +8,19 @@ pub struct Place {
     pub block: u32,
 }
 
-// What stands on the next reel behind its directory's mark: a header; or an image file that goes on, or that has just ended. `Nothing`: no reel
-// follows.
+// What stands on the next reel behind its directory's mark: a header; or an image file that goes on, or that has just ended.
 #[derive(Clone, Copy)]
 pub enum Onward {
     Header,
     Image,
-    Nothing,
 }
 
 // What must come next.
 #[derive(Clone, Copy)]
 pub enum Expect {
-    // a reel's directory, and its mark
-    Directory(Onward),
-    DirectoryMark(Onward),
+    // a reel's directory, and its mark, with what follows there if a reel follows
+    Directory(Option<Onward>),
+    DirectoryMark(Option<Onward>),
     // a header; the attribute record of a number; the mark behind these
     Header,
     Attribute(u32),
@@ -42,7 +40,7 @@ pub enum Expect {
     // the third mark that closes a set of several reels
     LastMark,
     // no block: the reel is over
-    End(Onward),
+    End(Option<Onward>),
 }
 
 // A group of files: what its header says, where its header and its first trailer stand, how many image blocks it has, and how many of them

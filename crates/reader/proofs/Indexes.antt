@@ -1,46 +1,42 @@
--- The search for a band's code.
-use Rattle.std.proofs.Common.{◌≡◌, ℕ, ◌+◌, ◌-◌, ◌<◌, ◌≤◌, min, eqb, leb, List, length, get_or, take, drop, IfSome, Some, None, Option, sym, ap, ◌∙◌, ⊎_elim, arith}
-use Rattle.std.proofs.lemmas.List.{at_drop_more, at_drop_all, take_all}
-use Rattle.std.proofs.lemmas.Bool.{eq-eqb, ne_eqb, le-leb, lt-leb, cond-true, cond-false, cases_lt}
+-- The search for a band's code, and for the reel of an image block.
+use Rattle.std.proofs.Common.{◌≡◌, ℕ, zero, suc, ◌+◌, ◌-◌, Bool, true, false, cond, not, eqb, ltb, leb, List, [], ◌∷◌, length, get_or, Some, None, Option, refl, ap, arith}
+use Rattle.std.specs.List.{position, position_or_len}
 use Rattle.reader.specs.Finding.{index_of, spot, image_on}
+use Rattle.reader.specs.declared.places.Spot.{Spot}
 
-module _ (code : ℕ) (xs : List ℕ) (i : ℕ) where
-  pub index_here : i < length xs → get_or xs i 0 ≡ code → index_of code (drop i xs) i ≡ Some i
-  index_here h e =
-      at_drop_more (λ ys. index_of code ys i) xs i 0 h
-      ∙ cond-true (eqb (get_or xs i 0) code) (Some i) (index_of code (drop (i + 1) xs) (i + 1)) (eq-eqb (get_or xs i 0) code e)
+-- The place of a code, as the library counts it.
+abbrev found : ℕ → ℕ → ℕ → Option ℕ
+found n l i = cond (ltb n l) (Some (i + n)) None
 
-  pub index_more : i < length xs → (get_or xs i 0 ≡ code → ⊥) → index_of code (drop i xs) i ≡ index_of code (drop (i + 1) xs) (i + 1)
-  index_more h n =
-      at_drop_more (λ ys. index_of code ys i) xs i 0 h
-      ∙ cond-false (eqb (get_or xs i 0) code) (Some i) (index_of code (drop (i + 1) xs) (i + 1)) (ne_eqb (get_or xs i 0) code n)
+index_from : (code : ℕ) (xs : List ℕ) (i : ℕ) → index_of code xs i ≡ found (position_or_len (λ x. eqb x code) xs) (length xs) i
+index_from code [] i = refl
+index_from code (x ∷ xs) i = either (eqb x code) (index_from code xs (i + 1))
+  where
+    either : (b : Bool) → index_of code xs (i + 1) ≡ found (position_or_len (λ x. eqb x code) xs) (length xs) (i + 1) → cond b (Some i) (index_of code xs (i + 1)) ≡ found (cond (not b) (1 + position_or_len (λ x. eqb x code) xs) 0) (length (x ∷ xs)) i
+    either true again = grind arith
+    either false again = grind (arith, again)
 
-  pub index_none : length xs ≤ i → index_of code (drop i xs) i ≡ None
-  index_none h = at_drop_all (λ ys. index_of code ys i) xs i h
+pub index_is : (code : ℕ) (xs : List ℕ) → position (λ x. eqb x code) xs ≡ index_of code xs 0
+index_is code xs = let again = index_from code xs 0 in grind (arith, again)
 
--- No more than there are.
-pub take_min : (n : ℕ) (xs : List ℕ) → length xs ≡ 5 → take (min n 5) xs ≡ take n xs
-take_min n xs l =
-    ⊎_elim
-    (λ (h : n < 5). let e : min n 5 ≡ n = omega arith in ap (λ k. take k xs) e)
-    (λ (h : 5 ≤ n). let e : min n 5 ≡ 5 = omega arith in ap (λ k. take k xs) e ∙ take_all 5 xs (omega arith) ∙ sym (take_all n xs (omega arith)))
-    (cases_lt n 5)
+-- The reel of an image block.
+abbrev image_at : ℕ → ℕ → ℕ → List ℕ → ℕ → Option Spot
+image_at k before reel xs n = cond (ltb n (length xs)) (Some (spot (reel + n) (k - get_or (before ∷ xs) n 0))) None
 
-pub within_more : (o : Option ℕ) (m n : ℕ) → m ≤ n → IfSome o (λ i. i < m) → IfSome o (λ i. i < n)
-within_more None m n h c = tt
-within_more (Some i) m n h c = omega arith
+image_from : (k before reel : ℕ) (xs : List ℕ) → image_on k before reel xs ≡ image_at k before reel xs (position_or_len (leb k) xs)
+image_from k before reel [] = refl
+image_from k before reel (t ∷ ts) = either (leb k t) (image_from k t (reel + 1) ts)
+  where
+    either : (b : Bool) → image_on k t (reel + 1) ts ≡ image_at k t (reel + 1) ts (position_or_len (leb k) ts) → cond b (Some (spot reel (k - before))) (image_on k t (reel + 1) ts) ≡ image_at k before reel (t ∷ ts) (cond (not b) (1 + position_or_len (leb k) ts) 0)
+    either true again = grind arith
+    either false again = grind (arith, again)
 
--- The search for the reel of an image block.
-module _ (k before : ℕ) (xs : List ℕ) (i : ℕ) (h : i < length xs) where
-  pub image_here : k ≤ get_or xs i 0 → image_on k before (i + 1) (drop i xs) ≡ Some (spot (i + 1) (k - before))
-  image_here l =
-      at_drop_more (image_on k before (i + 1)) xs i 0 h
-      ∙ cond-true (leb k (get_or xs i 0)) (Some (spot (i + 1) (k - before))) (image_on k (get_or xs i 0) (i + 1 + 1) (drop (i + 1) xs)) (le-leb k (get_or xs i 0) l)
+pub image_none : (k : ℕ) (xs : List ℕ) → position (leb k) xs ≡ None → image_on k 0 1 xs ≡ None
+image_none k xs e = let again = image_from k 0 1 xs in grind (arith, again, e)
 
-  pub image_more : get_or xs i 0 < k → image_on k before (i + 1) (drop i xs) ≡ image_on k (get_or xs i 0) (i + 1 + 1) (drop (i + 1) xs)
-  image_more l =
-      at_drop_more (image_on k before (i + 1)) xs i 0 h
-      ∙ cond-false (leb k (get_or xs i 0)) (Some (spot (i + 1) (k - before))) (image_on k (get_or xs i 0) (i + 1 + 1) (drop (i + 1) xs)) (lt-leb k (get_or xs i 0) l)
+pub image_some : (k : ℕ) (xs : List ℕ) (i : ℕ) → position (leb k) xs ≡ Some i → image_on k 0 1 xs ≡ Some (spot (i + 1) (k - get_or (0 ∷ xs) i 0))
+image_some k xs i e = let again = image_from k 0 1 xs in grind (arith, again, e)
 
-pub image_none : (k before : ℕ) (xs : List ℕ) (i : ℕ) → length xs ≤ i → image_on k before (i + 1) (drop i xs) ≡ None
-image_none k before xs i h = at_drop_all (image_on k before (i + 1)) xs i h
+pub shifted : (x : ℕ) (xs : List ℕ) (i : ℕ) → (i ≡ 0 → ⊥) → get_or xs (i - 1) 0 ≡ get_or (x ∷ xs) i 0
+shifted x xs zero some = absurd (some refl)
+shifted x xs (suc i) some = let e : suc i - 1 ≡ i = omega arith in ap (λ k. get_or xs k 0) e

@@ -14,6 +14,7 @@ use Rattle.reader.specs.declared.call.Answer.TheVariants as answers
 use Rattle.reader.specs.declared.call.Call.{Call}
 use Rattle.reader.specs.declared.call.Call.TheVariants as calls
 use Rattle.reader.specs.declared.call.Outline.{Outline}
+use Rattle.reader.specs.declared.reading.Reader.{Reader}
 use Rattle.reader.specs.declared.refusal.Refusal.{Refusal}
 
 -- An answer in numbers: a summary (the sensor's letter M or R, the mission, the correction's letter P or A, bands, lines), a band's code,
@@ -77,5 +78,9 @@ answer set m (calls.Sheet band kind index) buffer =
     record { said = told_by delivered (told_delivery d); buffer = buffer_after d buffer; memory = m }
 answer set m calls.Tally buffer = record { said = counted m.tally; buffer = buffer; memory = m }
 
-abbrev pub remembering : Option Accepted → ℕ → Memory
-remembering a t = record { accepted = a; tally = t }
+-- What a reader remembers, and the outcome of a call that it has answered.
+abbrev pub memory_of : {D : Type 0} → Reader D → Memory
+memory_of r = record { accepted = r.accepted; tally = r.tally }
+
+abbrev pub outcome_of : {D : Type 0} → Result Answer Refusal → List ℕ → Reader D → Outcome
+outcome_of result buffer r = record { said = told_answer result; buffer = buffer; memory = memory_of r }

@@ -4,6 +4,7 @@ use Rattle.deck.specs.Tape.{Block, written, mark, bad, TapeSet, from_one, look}
 use Rattle.records.specs.Bands.{no_bands}
 use Rattle.records.specs.Layouts.{sensor_in, record_length}
 use Rattle.records.specs.declared.bands.Bands.{Bands}
+use Rattle.records.specs.declared.layout.Form.{Form}
 use Rattle.machine.specs.declared.accepted.Accepted.{Accepted}
 use Rattle.survey.specs.Surveys.{Fault}
 use Rattle.reader.specs.Finding.{codes, band_file, line_spot, sheet_spot}
@@ -57,13 +58,16 @@ abbrev pub told_caller : {X : Type 0} → Result X CallerFault → Result X Faul
 told_caller (Ok x) = Ok x
 told_caller (Err e) = Err (caller (caller_number e))
 
+-- The body of a record of a form, into a buffer of some length: 45, then 46.
+abbrev pub body_into : TapeSet → Option Spot → Form → ℕ → Delivery
+body_into set p form room = cond (nat_lt room (record_length form - 6)) (Err 45) (body_at set p (record_length form))
+
 -- Line n of a band: 41, 42, 43, 45 and 46 in this order.
 abbrev pub line_in : TapeSet → Accepted → Option BandFile → ℕ → ℕ → Delivery
 line_in set a None n room = Err 42
 line_in set a (Some f) n room =
     cond (nat_le 1 n && nat_le n a.summary.lines)
-    (cond (nat_lt room (record_length a.summary.layout.form - 6)) (Err 45)
-    (body_at set (line_spot f a.summary.layout n) (record_length a.summary.layout.form)))
+    (body_into set (line_spot f a.summary.layout n) a.summary.layout.form room)
     (Err 43)
 
 abbrev pub line_answer : TapeSet → Option Accepted → ℕ → ℕ → ℕ → Delivery
@@ -73,8 +77,7 @@ line_answer set (Some a) band n room = line_in set a (band_file a band) n room
 -- A sheet of a band, by kind and index: 41, 42, 44 and 45 in this order.
 abbrev pub sheet_read : TapeSet → Accepted → Option Spot → ℕ → Delivery
 sheet_read set a None room = Err 44
-sheet_read set a (Some s) room =
-    cond (nat_lt room (record_length a.summary.layout.form - 6)) (Err 45) (body_at set (Some s) (record_length a.summary.layout.form))
+sheet_read set a (Some s) room = body_into set (Some s) a.summary.layout.form room
 
 abbrev pub sheet_in : TapeSet → Accepted → Option BandFile → ℕ → ℕ → ℕ → Delivery
 sheet_in set a None kind index room = Err 42

@@ -1,5 +1,5 @@
 -- Where the lines and sheets of an accepted set stand.
-use Rattle.std.specs.Prelude.{ℕ, ◌+◌, ◌-◌, ◌*◌, cond, ◌&&◌, List, [], ◌∷◌, take, Some, None, Option, ◌==◌, nat_le, slice_index_or}
+use Rattle.std.specs.Prelude.{ℕ, ◌+◌, ◌-◌, ◌*◌, cond, ◌&&◌, List, [], ◌∷◌, take, Some, None, Ok, Err, Option, Result, ◌==◌, nat_le, slice_index_or}
 use Rattle.records.specs.Layouts.{ancillaries, annotations, attributes, stride}
 use Rattle.records.specs.declared.layout.Form.{Form}
 use Rattle.records.specs.declared.layout.Form.TheVariants.{Interleaved, Sequential, Vidicon}
@@ -8,7 +8,11 @@ use Rattle.machine.specs.Machines.{no_group}
 use Rattle.machine.specs.declared.accepted.Accepted.{Accepted}
 use Rattle.machine.specs.declared.machine.Group.{Group}
 use Rattle.reader.specs.declared.places.BandFile.{BandFile}
+use Rattle.reader.specs.declared.places.SheetKind.{SheetKind}
+use Rattle.reader.specs.declared.places.SheetKind.TheVariants.{Header, Ancillary, Annotation, Trailer}
 use Rattle.reader.specs.declared.places.Spot.{Spot}
+use Rattle.reader.specs.declared.refusal.CallerFault.{CallerFault}
+use Rattle.reader.specs.declared.refusal.CallerFault.TheVariants.{Sheet}
 
 -- At which place a code stands in a list whose first place is i.
 abbrev pub index_of : ℕ → List ℕ → ℕ → Option ℕ
@@ -49,6 +53,10 @@ image_spot g l (Some s) = Some (spot s.reel (cond (s.reel == g.header.reel) (g.h
 -- Line n of a band.
 abbrev pub line_spot : BandFile → Layout → ℕ → Option Spot
 line_spot f l n = image_spot f.group l (image_on ((n - 1) * f.stride + f.first) 0 1 f.group.through)
+
+-- The kinds of sheets by their numbers. No other number is one.
+abbrev pub sheet_kind : ℕ → Result SheetKind CallerFault
+sheet_kind kind = cond (kind == 1) (Ok Header) (cond (kind == 2) (Ok Ancillary) (cond (kind == 3) (Ok Annotation) (cond (kind == 4) (Ok Trailer) (Err Sheet))))
 
 -- The sheets of a kind: 1 the header, 2 the ancillary, 3 the annotation, 4 the trailer records. Where the first one stands, and how many there
 -- are.

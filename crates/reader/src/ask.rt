@@ -1,6 +1,6 @@
 // Any call of a reader.
 ghost use Rattle.std.specs.Prelude.{◌≡◌};
-ghost use Rattle.reader.specs.Answers.{told_answer, answer, remembering};
+ghost use Rattle.reader.specs.Answers.{answer, memory_of, outcome_of};
 
 use super::call::{Answer, Call};
 use super::reading::Reader;
@@ -11,9 +11,7 @@ impl<D: Deck> Reader<D> {
     // Answers a call. A call that delivers nothing leaves the buffer as it is.
     pub fn ask(&mut self, call: Call, buffer: &mut [u8]) -> Result<Answer, Refusal>
         ensures stays { D.meaning self.new.deck ≡ D.meaning self.old.deck }
-        ensures says { told_answer result ≡ (answer (D.meaning self.old.deck) (remembering self.old.accepted self.old.tally) call buffer.old).said }
-        ensures writes { buffer.new ≡ (answer (D.meaning self.old.deck) (remembering self.old.accepted self.old.tally) call buffer.old).buffer }
-        ensures remembers { remembering self.new.accepted self.new.tally ≡ (answer (D.meaning self.old.deck) (remembering self.old.accepted self.old.tally) call buffer.old).memory }
+        ensures answers { outcome_of result buffer.new self.new ≡ answer (D.meaning self.old.deck) (memory_of self.old) call buffer.old }
     {
         match call {
             Call::Survey => Ok(Answer::Outline(self.survey()?)),

@@ -1,11 +1,12 @@
 // The body of a record, from the deck into a caller's buffer.
-ghost use Rattle.std.specs.Prelude.{◌≡◌, ◌+◌, ◌≤◌, length};
+ghost use Rattle.std.specs.Prelude.{◌≡◌, length};
 ghost use Rattle.deck.specs.Answers.{filled};
-ghost use Rattle.reader.specs.Bodies.{shown_at, length_of, body_at, told_delivery, buffer_after, told_caller};
+ghost use Rattle.reader.specs.Bodies.{shown_at, length_of, body_into, told_delivery, buffer_after, told_caller};
 
 use super::places::Spot;
 use super::refusal::CallerFault;
 use deck::{Deck, Kind, LONGEST_RECORD};
+use records::Form;
 
 // Puts the record at a spot into the scratch buffer and answers its length, if there is a record.
 fn record_at<D: Deck>(
@@ -25,20 +26,22 @@ fn record_at<D: Deck>(
     }
 }
 
-// Puts the body of the record at a spot at the front of the buffer.
+// Puts the body of the record at a spot at the front of the buffer, if it is a record of the form's length.
 pub(crate) fn body<D: Deck>(
     deck: &mut D,
     spot: Option<Spot>,
-    size: usize,
+    form: Form,
     scratch: &mut [u8; LONGEST_RECORD],
     buffer: &mut [u8],
 ) -> Result<usize, CallerFault>
-    requires large { (6 ≤ size) × (size ≤ 5388) }
-    requires room { size ≤ length buffer.old + 6 }
     ensures stays { D.meaning deck.new ≡ D.meaning deck.old }
-    ensures says { told_caller result ≡ told_delivery (body_at (D.meaning deck.old) spot size) }
-    ensures writes { buffer.new ≡ buffer_after (body_at (D.meaning deck.old) spot size) buffer.old }
+    ensures says { told_caller result ≡ told_delivery (body_into (D.meaning deck.old) spot form (length buffer.old)) }
+    ensures writes { buffer.new ≡ buffer_after (body_into (D.meaning deck.old) spot form (length buffer.old)) buffer.old }
 {
+    let size = form.record_length();
+    if buffer.len() < size - 6 {
+        return Err(CallerFault::Buffer);
+    }
     let length = record_at(deck, spot, scratch).ok_or(CallerFault::Unreadable)?;
     if length != size {
         return Err(CallerFault::Unreadable);

@@ -1,7 +1,8 @@
 // Where the lines and sheets of an accepted set stand.
-ghost use Rattle.std.specs.Prelude.{◌≡◌, ◌<◌, ◌≤◌, length, take, IfSome};
-ghost use Rattle.reader.specs.Finding.{index_of, band_file, image_on, line_spot, sheet_spot};
+ghost use Rattle.std.specs.Prelude.{◌≡◌, ◌<◌, ◌≤◌, length, take, ok_or, IfSome};
+ghost use Rattle.reader.specs.Finding.{index_of, band_file, image_on, line_spot, sheet_kind, sheet_spot};
 
+use super::refusal::CallerFault;
 use machine::{Accepted, Group};
 use records::{Bands, Form, Layout};
 
@@ -25,12 +26,7 @@ fn index_in(codes: &[u8], code: u8) -> Option<usize>
     ensures finds { result ≡ index_of code codes.now 0 }
     ensures within { IfSome result (λ i. i < length codes.now) }
 {
-    for (i, c) in codes.iter().enumerate() {
-        if *c == code {
-            return Some(i);
-        }
-    }
-    None
+    codes.iter().position(|c| *c == code)
 }
 
 // The codes of the bands present.
@@ -38,7 +34,7 @@ pub fn codes(bands: &Bands) -> &[u8]
     ensures is { result.now ≡ take bands.now.count bands.now.codes }
     ensures few { length result.now ≤ 5 }
 {
-    &bands.codes[0..bands.count.min(5)]
+    &bands.codes[..bands.count.min(5)]
 }
 
 // The image file of a band, if the band is present.
@@ -67,23 +63,16 @@ pub fn band_file(accepted: &Accepted, code: u8) -> Option<BandFile>
 }
 
 // On which reel image block k of a file stands, and which of that reel's image blocks it is.
-fn image_on(through: &[u32], k: u64) -> Option<Spot>
-    requires { length through.now ≤ 9 }
+fn image_on(through: &[u32; 9], k: u64) -> Option<Spot>
     ensures finds { result ≡ image_on k 0 1 through.now }
     ensures small { IfSome result (λ s. s.block < 4294967296) }
 {
-    let mut before = 0;
-    for (i, end) in through.iter().enumerate() {
-        let end = *end as u64;
-        if k <= end {
-            return Some(Spot {
-                reel: i as u32 + 1,
-                block: k - before,
-            });
-        }
-        before = end;
-    }
-    None
+    let i = through.iter().position(|end| k <= *end as u64)?;
+    let before = if i == 0 { 0 } else { through[i - 1] };
+    Some(Spot {
+        reel: i as u32 + 1,
+        block: k - before as u64,
+    })
 }
 
 // Where a line of a band stands.
@@ -104,24 +93,51 @@ pub fn line_spot(file: &BandFile, layout: Layout, line: u32) -> Option<Spot>
     })
 }
 
+// The kinds of sheets.
+enum SheetKind {
+    Header,
+    Ancillary,
+    Annotation,
+    Trailer,
+}
+
+impl TryFrom<u8> for SheetKind {
+    type Error = CallerFault;
+
+    ghost try_from_gives = { λ kind r. r ≡ sheet_kind kind };
+
+    fn try_from(kind: u8) -> Result<SheetKind, CallerFault> {
+        match kind {
+            1 => Ok(SheetKind::Header),
+            2 => Ok(SheetKind::Ancillary),
+            3 => Ok(SheetKind::Annotation),
+            4 => Ok(SheetKind::Trailer),
+            _ => Err(CallerFault::Sheet),
+        }
+    }
+}
+
 // Where a sheet stands, if there is such a sheet.
-pub(crate) fn sheet_spot(group: &Group, layout: Layout, kind: u8, index: u32) -> Option<Spot>
-    ensures { result ≡ sheet_spot group.now layout kind index }
+pub(crate) fn sheet_spot(
+    group: &Group,
+    layout: Layout,
+    kind: u8,
+    index: u32,
+) -> Result<Spot, CallerFault>
+    ensures { result ≡ ok_or (sheet_spot group.now layout kind index) CallerFault.Sheet }
 {
     let header = group.header;
-    let trailer = group.trailer;
     let ancillaries = layout.ancillaries();
-    let (place, many, behind) = match kind {
-        1 => (header, 1, 0),
-        2 => (header, ancillaries, 1),
-        3 => (header, layout.annotations(), ancillaries + 1),
-        4 => (trailer, group.trailers, 0),
-        _ => return None,
+    let (place, many, behind) = match SheetKind::try_from(kind)? {
+        SheetKind::Header => (header, 1, 0),
+        SheetKind::Ancillary => (header, ancillaries, 1),
+        SheetKind::Annotation => (header, layout.annotations(), ancillaries + 1),
+        SheetKind::Trailer => (group.trailer, group.trailers, 0),
     };
-    if index < 1 || many < index {
-        return None;
+    if !(1..=many).contains(&index) {
+        return Err(CallerFault::Sheet);
     }
-    Some(Spot {
+    Ok(Spot {
         reel: place.reel,
         block: place.block as u64 + behind as u64 + (index as u64 - 1),
     })

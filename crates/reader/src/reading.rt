@@ -119,21 +119,12 @@ impl<D: Deck> Reader<D> {
             return Err(CallerFault::NotAccepted.into());
         };
         let file = band_file(&accepted, band).ok_or(CallerFault::Band)?;
-        if line < 1 || accepted.summary.lines < line {
+        if !(1..=accepted.summary.lines).contains(&line) {
             return Err(CallerFault::Line.into());
         }
         let layout = accepted.summary.layout;
-        let size = layout.form.record_length();
-        if buffer.len() < size - 6 {
-            return Err(CallerFault::Buffer.into());
-        }
-        let length = body(
-            &mut self.deck,
-            line_spot(&file, layout, line),
-            size,
-            &mut self.scratch,
-            buffer,
-        )?;
+        let spot = line_spot(&file, layout, line);
+        let length = body(&mut self.deck, spot, layout.form, &mut self.scratch, buffer)?;
         if self.tally < MOST_TALLIED {
             self.tally += 1;
         }
@@ -158,12 +149,8 @@ impl<D: Deck> Reader<D> {
         };
         let file = band_file(&accepted, band).ok_or(CallerFault::Band)?;
         let layout = accepted.summary.layout;
-        let spot = sheet_spot(&file.group, layout, kind, index).ok_or(CallerFault::Sheet)?;
-        let size = layout.form.record_length();
-        if buffer.len() < size - 6 {
-            return Err(CallerFault::Buffer.into());
-        }
-        Ok(body(&mut self.deck, Some(spot), size, &mut self.scratch, buffer)?)
+        let spot = Some(sheet_spot(&file.group, layout, kind, index)?);
+        Ok(body(&mut self.deck, spot, layout.form, &mut self.scratch, buffer)?)
     }
 }
 

@@ -40,7 +40,7 @@ module _ (z : Machine) (many : ℕ) (d : Body) (l : Layout) (whole : length d �
 
   -- Where a reel has ended, the next tells what is left.
   abbrev Next : ℕ → TapeSet → Type 0
-  Next reel rs = (on : Onward) (g : Group) (c : ℕ) (t : List Group) (b : Bands) → length t ≡ 5 → reel + 1 ≤ many → rests.Known many d l (onward_expect on) g c t (reel + 1) → feed (at (expects.Directory on) g c t b) (reel + 1) rs ≡ Ok z → rests.NextRest many d l (λ k cs us. rests.Rest many d l (onward_expect on) g c t k cs us) reel rs
+  Next reel rs = (on : Option Onward) (g : Group) (c : ℕ) (t : List Group) (b : Bands) → length t ≡ 5 → reel + 1 ≤ many → rests.Known many d l (onward_expect on) g c t (reel + 1) → feed (at (expects.Directory on) g c t b) (reel + 1) rs ≡ Ok z → rests.NextRest many d l (λ k cs us. rests.Rest many d l (onward_expect on) g c t k cs us) reel rs
 
   ended : (reel : ℕ) (rs : TapeSet) → reel + length rs ≡ many → Next reel rs → Again z many d l reel [] rs
   ended reel rs left next (expects.Directory on) g c t b block five k q = absurd k
@@ -56,9 +56,9 @@ module _ (z : Machine) (many : ℕ) (d : Body) (l : Layout) (whole : length d �
   ended reel rs left next expects.TrailerMark g c t b block five k q = refused _ z q
   ended reel rs left next expects.BehindTrailer g c t b block five k q = refused _ z q
   ended reel rs left next expects.LastMark g c t b block five k q = refused _ z q
-  ended reel rs left next (expects.End onwards.Header) g c t b block five k q = (refl, next onwards.Header g c t b five k.0 (inl k.1) q)
-  ended reel rs left next (expects.End onwards.Image) g c t b block five k q = (refl, next onwards.Image g c t b five k.0 k.1 q)
-  ended reel rs left next (expects.End onwards.Nothing) g c t b block five k q = (refl, none_left rs (omega (arith, left, k)))
+  ended reel rs left next (expects.End (Some onwards.Header)) g c t b block five k q = (refl, next (Some onwards.Header) g c t b five k.0 (inl k.1) q)
+  ended reel rs left next (expects.End (Some onwards.Image)) g c t b block five k q = (refl, next (Some onwards.Image) g c t b five k.0 k.1 q)
+  ended reel rs left next (expects.End None) g c t b block five k q = (refl, none_left rs (omega (arith, left, k)))
 
   -- The rest of a reel.
   pub along : (bs : Reel) (reel : ℕ) (rs : TapeSet) → 1 ≤ reel → reel + length rs ≡ many → Next reel rs → Again z many d l reel bs rs
@@ -66,18 +66,18 @@ module _ (z : Machine) (many : ℕ) (d : Body) (l : Layout) (whole : length d �
   along (b0 ∷ bs) reel rs r left next = λ e g c t b block five k q. block_left z many d l reel bs rs (along bs reel rs r left next) g c t b block five b0 e r left k q
 
   -- A later reel.
-  record Entered (on : Onward) (g : Group) (c : ℕ) (t : List Group) (b : Bands) (reel : ℕ) (bs : Reel) (rs : TapeSet) : Type 0 where
+  record Entered (on : Option Onward) (g : Group) (c : ℕ) (t : List Group) (b : Bands) (reel : ℕ) (bs : Reel) (rs : TapeSet) : Type 0 where
     rest : Reel
     is : bs ≡ written (directory_on d reel) ∷ mark ∷ rest
     on_it : go (at (onward_expect on) g c t b) reel 3 rest rs ≡ Ok z
 
-  marked : (on : Onward) (g : Group) (c : ℕ) (t : List Group) (b : Bands) (reel : ℕ) (xs : List ℕ) (bs : Reel) (rs : TapeSet) → xs ≡ directory_on d reel → go (at (expects.DirectoryMark on) g c t b) reel 2 bs rs ≡ Ok z → Entered on g c t b reel (written xs ∷ bs) rs
+  marked : (on : Option Onward) (g : Group) (c : ℕ) (t : List Group) (b : Bands) (reel : ℕ) (xs : List ℕ) (bs : Reel) (rs : TapeSet) → xs ≡ directory_on d reel → go (at (expects.DirectoryMark on) g c t b) reel 2 bs rs ≡ Ok z → Entered on g c t b reel (written xs ∷ bs) rs
   marked on g c t b reel xs [] rs e q = refused _ z q
   marked on g c t b reel xs (written ys ∷ bs) rs e q = refused _ z q
   marked on g c t b reel xs (mark ∷ bs) rs e q = record { rest = bs; is = ap (λ k. written k ∷ mark ∷ bs) e; on_it = q }
   marked on g c t b reel xs (bad ∷ bs) rs e q = refused _ z q
 
-  entered : (on : Onward) (g : Group) (c : ℕ) (t : List Group) (b : Bands) (reel : ℕ) (bs : Reel) (rs : TapeSet) → 2 ≤ reel → go (at (expects.Directory on) g c t b) reel 1 bs rs ≡ Ok z → Entered on g c t b reel bs rs
+  entered : (on : Option Onward) (g : Group) (c : ℕ) (t : List Group) (b : Bands) (reel : ℕ) (bs : Reel) (rs : TapeSet) → 2 ≤ reel → go (at (expects.Directory on) g c t b) reel 1 bs rs ≡ Ok z → Entered on g c t b reel bs rs
   entered on g c t b reel [] rs h q = refused _ z q
   entered on g c t b reel (mark ∷ bs) rs h q = refused _ z q
   entered on g c t b reel (bad ∷ bs) rs h q = refused _ z q
@@ -153,7 +153,7 @@ module _ (z : Machine) (many : ℕ) (rs : TapeSet) (nine : many ≤ 9) (left : 1
             ∙ ap (λ k. (written xs ∷ mark ∷ bs) ∷ k) (sym rem.rest);
       }
 
-  from_mark : (xs : List ℕ) (l : Layout) (bs : Reel) → length (drop 6 xs) ≡ 354 → xs ≡ record_of 1 9 (drop 6 xs) → first_directory xs many ≡ Some l → go (machine many xs l (expects.DirectoryMark onwards.Header) nothing_read 0 (replicate 5 nothing_read) no_bands) 1 2 bs rs ≡ Ok z → Recorded ((written xs ∷ bs) ∷ rs)
+  from_mark : (xs : List ℕ) (l : Layout) (bs : Reel) → length (drop 6 xs) ≡ 354 → xs ≡ record_of 1 9 (drop 6 xs) → first_directory xs many ≡ Some l → go (machine many xs l (expects.DirectoryMark (Some onwards.Header)) nothing_read 0 (replicate 5 nothing_read) no_bands) 1 2 bs rs ≡ Ok z → Recorded ((written xs ∷ bs) ∷ rs)
   from_mark xs l [] whole is says q = refused _ z q
   from_mark xs l (written ys ∷ bs) whole is says q = refused _ z q
   from_mark xs l (bad ∷ bs) whole is says q = refused _ z q
@@ -162,7 +162,7 @@ module _ (z : Machine) (many : ℕ) (rs : TapeSet) (nine : many ≤ 9) (left : 1
       let p : go (machine many (record_of 1 9 d) l expects.Header nothing_read 0 (replicate 5 nothing_read) no_bands) 1 3 bs rs ≡ Ok z = subst (λ y. go (machine many y l expects.Header nothing_read 0 (replicate 5 nothing_read) no_bands) 1 3 bs rs ≡ Ok z) is q in
       written_from xs l bs whole is says (along z many d l whole bs 1 rs (omega arith) left (next z many d l whole rs 1 (omega arith) left) expects.Header nothing_read 0 (replicate 5 nothing_read) no_bands 3 refl (inr refl) p)
 
-  from_layout : (xs : List ℕ) (bs : Reel) (o : Option Layout) → length (drop 6 xs) ≡ 354 → xs ≡ record_of 1 9 (drop 6 xs) → first_directory xs many ≡ o → after 1 1 bs rs (first (start many) onwards.Header xs o) ≡ Ok z → Recorded ((written xs ∷ bs) ∷ rs)
+  from_layout : (xs : List ℕ) (bs : Reel) (o : Option Layout) → length (drop 6 xs) ≡ 354 → xs ≡ record_of 1 9 (drop 6 xs) → first_directory xs many ≡ o → after 1 1 bs rs (first (start many) (Some onwards.Header) xs o) ≡ Ok z → Recorded ((written xs ∷ bs) ∷ rs)
   from_layout xs bs None whole is says q = refused _ z q
   from_layout xs bs (Some l) whole is says q = from_mark xs l bs whole is says q
 
@@ -171,7 +171,7 @@ module _ (z : Machine) (many : ℕ) (rs : TapeSet) (nine : many ≤ 9) (left : 1
   from_reel (mark ∷ bs) q = refused _ z q
   from_reel (bad ∷ bs) q = refused _ z q
   from_reel (written xs ∷ bs) q =
-      let p = was_passed 1 1 bs rs z (checked xs 360 9 1) (first (start many) onwards.Header xs (first_directory xs many)) q in
+      let p = was_passed 1 1 bs rs z (checked xs 360 9 1) (first (start many) (Some onwards.Header) xs (first_directory xs many)) q in
       let s = spells xs 360 9 1 (omega arith) p.0 in
       from_layout xs bs (first_directory xs many) s.long s.is refl p.1
 

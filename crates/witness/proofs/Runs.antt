@@ -5,7 +5,7 @@ use Rattle.std.proofs.lemmas.Bool.Decides.{nat_tests}
 use Rattle.deck.specs.Tape.{TapeSet}
 use Rattle.machine.specs.declared.accepted.Accepted.{Accepted}
 use Rattle.survey.specs.Surveys.{surveyed}
-use Rattle.reader.specs.Answers.{Memory, remembering, answer}
+use Rattle.reader.specs.Answers.{Memory, Outcome, answer, told_answer}
 use Rattle.reader.specs.Bodies.{Delivery, line_answer, accepted_by, raised}
 use Rattle.reader.specs.declared.call.Call.{Call}
 use Rattle.reader.specs.declared.call.Call.TheVariants.{Survey, Band, Ident, Line, Sheet, Tally}
@@ -16,7 +16,7 @@ use Rattle.witness.specs.declared.calls.Asked.{Asked}
 pub pair : {X Y : Type 0} {a b : X} {c d : Y} → a ≡ b → c ≡ d → ◌≡◌ {A = X × Y} (a, c) (b, d)
 pair p q = cc
 
-same_memory : {a b : Option Accepted} {s t : ℕ} → a ≡ b → s ≡ t → remembering a s ≡ remembering b t
+same_memory : {a b : Option Accepted} {s t : ℕ} → a ≡ b → s ≡ t → ◌≡◌ {A = Memory} record { accepted = a; tally = s } record { accepted = b; tally = t }
 same_memory p q = cc
 
 or_false : (b : Bool) → (b || false) ≡ b
@@ -84,17 +84,17 @@ replies_more set before (p ∷ qs) q =
 
 -- A turn of the loop: the reader was asked one call more, and the answer was put at the end.
 module _ (set was now : TapeSet) (m n : Memory) (calls : List Asked) (a : Asked) (answers later : List Answered) (r : Answered) where
-  pub turn : was ≡ set → m ≡ remembered set (map asked calls) → map answered answers ≡ replies set (map asked calls) → now ≡ was → answered r ≡ reply_of (answer was m a.call (vec_items a.buffer)) → n ≡ (answer was m a.call (vec_items a.buffer)).memory → later ≡ answers ++ r ∷ [] → (now ≡ set) × ((n ≡ remembered set (map asked (calls ++ a ∷ []))) × (map answered later ≡ replies set (map asked (calls ++ a ∷ []))))
-  turn e em er stays says remembers pushed =
+  pub turn : was ≡ set → m ≡ remembered set (map asked calls) → map answered answers ≡ replies set (map asked calls) → now ≡ was → ◌≡◌ {A = Outcome} record { said = told_answer r.answer; buffer = vec_items r.buffer; memory = n } (answer was m a.call (vec_items a.buffer)) → later ≡ answers ++ r ∷ [] → (now ≡ set) × ((n ≡ remembered set (map asked (calls ++ a ∷ []))) × (map answered later ≡ replies set (map asked (calls ++ a ∷ []))))
+  turn e em er stays outcome pushed =
       let past = map asked calls in
       let more : map asked (calls ++ a ∷ []) ≡ past ++ asked a ∷ [] = map_push asked calls a in
       let at : answer was m a.call (vec_items a.buffer) ≡ answer set (remembered set past) a.call (vec_items a.buffer) = ap (λ s. answer s m a.call (vec_items a.buffer)) e ∙ ap (λ k. answer set k a.call (vec_items a.buffer)) em in (
         stays ∙ e,
         (
-          remembers ∙ ap (λ o. o.memory) at ∙ memory_more set past a.call (vec_items a.buffer) ∙ ap (remembered set) (sym more),
+          ap (λ o. o.memory) (outcome ∙ at) ∙ memory_more set past a.call (vec_items a.buffer) ∙ ap (remembered set) (sym more),
           ap (map answered) pushed ∙ map_push answered answers r
               ∙ ap (λ rs. rs ++ answered r ∷ []) er
-              ∙ ap (λ x. replies set past ++ x ∷ []) (says ∙ ap reply_of at)
+              ∙ ap (λ x. replies set past ++ x ∷ []) (ap reply_of (outcome ∙ at))
               ∙ sym (replies_more set [] past (asked a))
               ∙ ap (replies set) (sym more),
         ),

@@ -1,4 +1,3 @@
 pub mod Replies
 pub mod Pictured
 pub mod Promises
-pub mod Comparing

@@ -1,9 +1,8 @@
 // Lists of calls, played to a fresh reader.
 ghost use Rattle.std.specs.Prelude.{◌≡◌, map, IfOk};
-ghost use Rattle.reader.specs.Answers.{answer, remembering};
-ghost use Rattle.witness.specs.Comparing.{same_answered, compares};
+ghost use Rattle.reader.specs.Answers.{answer, memory_of, outcome_of};
 ghost use Rattle.witness.specs.Pictured.{Shown};
-ghost use Rattle.witness.specs.Replies.{asked, answered, reply_of, replies};
+ghost use Rattle.witness.specs.Replies.{asked, answered, replies};
 
 use deck::Deck;
 use reader::{Answer, Call, Reader, Refusal};
@@ -16,22 +15,11 @@ pub struct Asked {
     pub buffer: Vec<u8>,
 }
 
-// What a call answered, and the buffer afterwards.
-#[derive(Drop)]
+// What a call answered, and the buffer afterwards. Answers are equal where all that they say is, and every byte of the buffers.
+#[derive(PartialEq, Eq, Drop)]
 pub struct Answered {
     pub answer: Result<Answer, Refusal>,
     pub buffer: Vec<u8>,
-}
-
-// Answers are equal where all that they say is, and every byte of the buffers.
-impl PartialEq for Answered {
-    ghost eq = { same_answered };
-
-    ghost laws = { compares };
-
-    fn eq(&self, other: &Answered) -> bool {
-        self.answer == other.answer && self.buffer == other.buffer
-    }
 }
 
 // What two readers answered, and whether they answered alike.
@@ -45,8 +33,7 @@ pub struct Twins {
 // One call more.
 fn ask<D: Deck>(reader: &mut Reader<D>, asked: Asked) -> Answered
     ensures stays { D.meaning reader.new.deck ≡ D.meaning reader.old.deck }
-    ensures says { answered result ≡ reply_of (answer (D.meaning reader.old.deck) (remembering reader.old.accepted reader.old.tally) asked.call asked.buffer.items) }
-    ensures remembers { remembering reader.new.accepted reader.new.tally ≡ (answer (D.meaning reader.old.deck) (remembering reader.old.accepted reader.old.tally) asked.call (asked.buffer.items)).memory }
+    ensures answers { outcome_of result.answer result.buffer.items reader.new ≡ answer (D.meaning reader.old.deck) (memory_of reader.old) asked.call asked.buffer.items }
 {
     let Asked { call, mut buffer } = asked;
     let answer = reader.ask(call, buffer.as_mut_slice());

@@ -1,15 +1,10 @@
-use Rattle.std.proofs.Common.{sym, ◌∙◌, arith}
-use Rattle.reader.proofs.Indexes.{index_here, index_more, index_none}
+use Rattle.std.proofs.Common.{◌==◌, ◌∙◌, rules, tests}
+use Rattle.std.proofs.lemmas.Iterator.{YieldsList-from_slice}
+use Rattle.std.proofs.lemmas.Iterator.Search.{position_from_yields_List}
+use Rattle.reader.proofs.Indexes.{index_is}
 use Rattle.reader.proofs.places.index_in.Goals as goal
 
-pub returns-then-c-code : goal.returns-then-c-code
-returns-then-c-code c = record {
-  finds = sym (sym c.loop-i.invariant ∙ index_here c.args.code c.args.codes.now c.loop-i.i (omega arith) c.if-c-code.true);
-  within = omega arith;
-}
-
-pub loop-i-preserved : goal.loop-i-preserved
-loop-i-preserved c = sym (index_more c.args.code c.args.codes.now c.loop-i.i (omega arith) c.if-c-code.false) ∙ c.loop-i.invariant
-
-pub returns : goal.returns
-returns c = record { finds = sym (sym c.loop-i.invariant ∙ index_none c.args.code c.args.codes.now c.loop-i.i (omega arith)); within = tt }
+pub returns-clause-finds : goal.returns-clause-finds
+returns-clause-finds c =
+    position_from_yields_List (λ x. x == c.args.code) _ _ c.position.result c.position.ensures.ran (YieldsList-from_slice c.args.codes.now cc) (λ x b q k. search (rules, tests))
+    ∙ index_is c.args.code c.args.codes.now
