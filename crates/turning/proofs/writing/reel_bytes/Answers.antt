@@ -32,7 +32,7 @@ returns-clause-bytes g c =
       | else-loop-block-test w ↦ going_all xs c.loop-block.block bytes c.loop-block.invariant.1 (omega (arith, w.loop-block-test.false, few-blocks set c.args.reel (g.met.D.Deck.sound c.args.deck.now)))
       | then-loop-block-test+in_ok-stored+in_default w ↦
           going_done xs c.loop-block.block bytes c.loop-block.invariant.1
-              (on (g.D.Deck.meaning c.loop-block.deck) set c.args.reel c.loop-block.block None c.loop-block.invariant.0 (sym (ap told_bytes w.in_default.is) ∙ w.in_ok-stored.ensures.bytes))
+          (on (g.D.Deck.meaning c.loop-block.deck) set c.args.reel c.loop-block.block None c.loop-block.invariant.0 (sym (ap told_bytes w.in_default.is) ∙ w.in_ok-stored.ensures.bytes))
     ] in
     pushed c.as_slice-2.result.now refl c.in_ok-extend_from_slice-2.was c.extend_from_slice-2.ensures.items
     ∙ ap (λ t. bytes ++ t) (c.as_slice-2.ensures.value ∙ c.in_ok-end.ensures)

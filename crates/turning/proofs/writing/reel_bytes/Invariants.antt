@@ -5,4 +5,3 @@ use Rattle.turning.proofs.writing.reel_bytes.Given as goal
 
 abbrev pub invariant-loop-block : goal.invariant-loop-block
 invariant-loop-block g l = (g.D.Deck.meaning l.deck ≡ g.D.Deck.meaning l.initial.deck) × Going (reel_of (g.D.Deck.meaning l.initial.deck) l.reel) l.block (vec_items l.bytes)
-
