@@ -11,13 +11,8 @@ use super::refusal::{Cause, Refusal};
 pub(crate) fn word_at(bytes: &[u8], at: usize) -> Option<u32>
     ensures { result ≡ (if nat_lt (length bytes.now) (at + 4) then None else Some (value (drop at bytes.now))) }
 {
-    if at > bytes.len() {
-        return None;
-    }
-    match &bytes[at..] {
-        [a, b, c, d, ..] => Some(u32::from_be_bytes([*a, *b, *c, *d])),
-        _ => None,
-    }
+    let word = bytes.get(at..)?.first_chunk::<4>()?;
+    Some(u32::from_be_bytes(*word))
 }
 
 // The word at a place, or the refusal of an image that is cut short there.
