@@ -8,13 +8,6 @@ use Rattle.survey.proofs.reading.survey.Given.{Over}
 use Rattle.survey.proofs.reading.survey.Goals as goal
 use Rattle.survey.proofs.reading.survey.Goals.{else-loop-reel-test, then-loop-reel-test+in_ok-survey_reel+else-reel-reels}
 
-pub loop-reel-init : goal.loop-reel-init
-loop-reel-init g c =
-    let set = g.D.Deck.meaning c.reels-reels.new.self in
-    let many = c.reels-reels.ensures.value ∙ ap length (sym c.reels-reels.ensures.stays) in
-    let new = c.new-machine.ensures ∙ ap start many in
-    (refl, ap (λ m. feed m 1 set) new)
-
 pub returns-in_err-survey_reel : goal.returns-in_err-survey_reel
 returns-in_err-survey_reel g c =
     let set = g.D.Deck.meaning c.reels-reels.new.self in
