@@ -5,7 +5,7 @@ use Rattle.deck.proofs.Looks.{reel_sound}
 use Rattle.machine.specs.declared.machine.Machine.{Machine}
 use Rattle.survey.specs.Surveys.{Fault, feed_reel, told_fault}
 use Rattle.survey.proofs.Feeding.{from_block, block-there, feed_fault, feed_more, feed_last, same_look}
-use Rattle.survey.proofs.reading.survey_reel.Goals as goal
+use Rattle.survey.proofs.reading.Reading.read_reel.Goals as goal
 
 -- What is left of a reel from the block that is read.
 from_here : (set : TapeSet) (m : Machine) (reel block next : ℕ) {z : Result Machine Fault} → block ≡ next → feed_reel m reel next (from_block set reel next) ≡ z → feed_reel m reel block (from_block set reel block) ≡ z
@@ -17,8 +17,8 @@ returns-in_err-take-clause-says g c =
     let inv = c.loop-block.invariant in
     let p = err_from_is_err_and c.from_residual.result c.from_residual.ensures.1 in
     let says = rw inv.0 at c.in_err-take.ensures.says in
-    let fault = feed_fault set c.loop-block.machine c.args.reel c.in-Some.block c.requires.0 c.requires.1 (omega (arith, c.in-Some.ensures.steps.0)) (told_fault c.in_err-take.field-0.0) says in
-    rw (p.1, p.2) (fault ∙ from_here set c.loop-block.machine c.args.reel c.in-Some.block c.loop-block.block-iterator.start c.in-Some.ensures.steps.0 inv.1.1.1.1)
+    let fault = feed_fault set c.loop-block.self.machine c.args.reel c.in-Some.block c.requires.0 c.requires.1 (omega (arith, c.in-Some.ensures.steps.0)) (told_fault c.in_err-take.field-0.0) says in
+    rw (p.1, p.2) (fault ∙ from_here set c.loop-block.self.machine c.args.reel c.in-Some.block c.loop-block.block-iterator.start c.in-Some.ensures.steps.0 inv.1.1.1.1)
 
 pub loop-block-preserved : goal.loop-block-preserved
 loop-block-preserved g c =
@@ -27,8 +27,8 @@ loop-block-preserved g c =
     let first : 1 ≤ c.in-Some.block = omega (arith, c.in-Some.ensures.steps.0) in
     let says = rw inv.0 at c.in_ok-take.ensures.says in
     let more = same_look (g.D.Deck.meaning c.loop-block.deck) set c.args.reel c.in-Some.block c.in_ok-take.field-0 true inv.0 c.in_ok-take.ensures.more c.if-not-branch.false in
-    let there = block-there set c.loop-block.machine c.args.reel c.in-Some.block c.requires.0 c.requires.1 first more in
-    let next = feed_more set c.loop-block.machine c.args.reel c.in-Some.block c.requires.0 c.requires.1 first c.take.new.machine more says in (
+    let there = block-there set c.loop-block.self.machine c.args.reel c.in-Some.block c.requires.0 c.requires.1 first more in
+    let next = feed_more set c.loop-block.self.machine c.args.reel c.in-Some.block c.requires.0 c.requires.1 first c.take.new.self.machine more says in (
       c.take.ensures.stays ∙ inv.0,
       (
         (λ s. c.in_ok-take.ensures.stays_steady (inv.1.0 s)),
@@ -36,8 +36,8 @@ loop-block-preserved g c =
           omega (arith, c.in-Some.ensures.steps.1),
           (
             omega (arith, c.in-Some.ensures.steps.1, there),
-            from_here set c.take.new.machine c.args.reel c.next.new.self.start (c.in-Some.block + 1) c.in-Some.ensures.steps.1 next
-                ∙ from_here set c.loop-block.machine c.args.reel c.in-Some.block c.loop-block.block-iterator.start c.in-Some.ensures.steps.0 inv.1.1.1.1,
+            from_here set c.take.new.self.machine c.args.reel c.next.new.self.start (c.in-Some.block + 1) c.in-Some.ensures.steps.1 next
+                ∙ from_here set c.loop-block.self.machine c.args.reel c.in-Some.block c.loop-block.block-iterator.start c.in-Some.ensures.steps.0 inv.1.1.1.1,
           ),
         ),
       ),
@@ -54,5 +54,5 @@ returns-then-not-branch-clause-says g c =
     let inv = c.loop-block.invariant in
     let none = same_look (g.D.Deck.meaning c.loop-block.deck) set c.args.reel c.in-Some.block c.in_ok-take.field-0 false inv.0 c.in_ok-take.ensures.more c.if-not-branch.true in
     let says = rw inv.0 at c.in_ok-take.ensures.says in
-    feed_last set c.loop-block.machine c.args.reel c.in-Some.block c.requires.0 c.requires.1 (omega (arith, c.in-Some.ensures.steps.0)) c.take.new.machine none says
-    ∙ from_here set c.loop-block.machine c.args.reel c.in-Some.block c.loop-block.block-iterator.start c.in-Some.ensures.steps.0 inv.1.1.1.1
+    feed_last set c.loop-block.self.machine c.args.reel c.in-Some.block c.requires.0 c.requires.1 (omega (arith, c.in-Some.ensures.steps.0)) c.take.new.self.machine none says
+    ∙ from_here set c.loop-block.self.machine c.args.reel c.in-Some.block c.loop-block.block-iterator.start c.in-Some.ensures.steps.0 inv.1.1.1.1
