@@ -1,5 +1,5 @@
 -- What a deck shows, block by block.
-use Rattle.std.proofs.Common.{◌≡◌, ℕ, ◌+◌, ◌<◌, ◌≤◌, List, [], ◌∷◌, ◌++◌, length, get_or, take, replicate, Result, sym, ap, ◌∙◌, append_assoc, append-nil}
+use Rattle.std.proofs.Common.{◌≡◌, ℕ, ◌+◌, ◌<◌, ◌≤◌, List, [], ◌∷◌, ◌++◌, length, get_or, take, replicate, Option, Result, sym, ap, ◌∙◌, append_assoc, append-nil}
 use Rattle.std.proofs.lemmas.List.{take_more, take_all}
 use Rattle.deck.specs.Answers.{kind_of, fetched, filled}
 use Rattle.deck.specs.Tape.{TapeSet, look}
@@ -11,7 +11,7 @@ use Rattle.bridge.specs.declared.show.Fetch.{Fetch}
 
 -- One block, asked for in both ways.
 module _ (set was : TapeSet) (f : Fetch) (same : was ≡ set) where
-  pub words_seen : (k : Kind) (r : Result Kind Short) (a b : ℕ × ℕ) (room : ℕ) → k ≡ kind_of (look set f.reel f.block) → a ≡ kind_number k → r ≡ fetched (look was f.reel f.block) room → room ≡ f.room → b ≡ fetch_number r → four a b ≡ words_of set f
+  pub words_seen : (k : Option (Kind ℕ)) (r : Result (Option (Kind ℕ)) Short) (a b : ℕ × ℕ) (room : ℕ) → k ≡ kind_of (look set f.reel f.block) → a ≡ kind_number k → r ≡ fetched (look was f.reel f.block) room → room ≡ f.room → b ≡ fetch_number r → four a b ≡ words_of set f
   words_seen k r a b room ek ea er em eb =
       let first : a ≡ kind_number (kind_of (look set f.reel f.block)) = ea ∙ ap kind_number ek in
       let second : b ≡ fetch_number (fetched (look set f.reel f.block) f.room) = eb ∙ ap fetch_number (er ∙ ap (λ s. fetched (look s f.reel f.block) room) same ∙ ap (λ n. fetched (look set f.reel f.block) n) em) in

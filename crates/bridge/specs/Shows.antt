@@ -1,23 +1,23 @@
 -- Blocks as a deck shows them, in numbers.
-use Rattle.std.specs.Prelude.{ℕ, cond, List, [], ◌∷◌, ◌++◌, length, replicate, Ok, Err, Result, ◌==◌}
+use Rattle.std.specs.Prelude.{ℕ, cond, List, [], ◌∷◌, ◌++◌, length, replicate, Some, None, Ok, Err, Option, Result, ◌==◌}
 use Rattle.deck.specs.Answers.{kind_of, fetched, filled}
 use Rattle.deck.specs.Tape.{TapeSet, look}
 use Rattle.deck.specs.declared.Kind.{Kind}
-use Rattle.deck.specs.declared.Kind.TheVariants.{Record, Mark, Bad, Absent}
+use Rattle.deck.specs.declared.Kind.TheVariants.{Record, Mark, Bad}
 use Rattle.deck.specs.declared.Short.{Short}
 use Rattle.image.specs.Stored.{Verdict}
 use Rattle.turner.specs.Shown.{turned}
 use Rattle.bridge.specs.Answers.{Sent, unopened, opened}
 use Rattle.bridge.specs.declared.show.Fetch.{Fetch}
 
--- A kind by its number: 1 a record, with its length, 2 a mark, 3 bad, 0 absent; and 4 for a buffer that is too short.
-abbrev pub kind_number : Kind → ℕ × ℕ
-kind_number (Record n) = (1, n)
-kind_number Mark = (2, 0)
-kind_number Bad = (3, 0)
-kind_number Absent = (0, 0)
+-- A kind by its number: 1 a record, with its length, 2 a mark, 3 bad, 0 none; and 4 for a buffer that is too short.
+abbrev pub kind_number : Option (Kind ℕ) → ℕ × ℕ
+kind_number (Some (Record n)) = (1, n)
+kind_number (Some Mark) = (2, 0)
+kind_number (Some Bad) = (3, 0)
+kind_number None = (0, 0)
 
-abbrev pub fetch_number : Result Kind Short → ℕ × ℕ
+abbrev pub fetch_number : Result (Option (Kind ℕ)) Short → ℕ × ℕ
 fetch_number (Ok kind) = kind_number kind
 fetch_number (Err e) = (4, 0)
 

@@ -78,7 +78,7 @@ fn is_record<D: Deck>(deck: &mut D, wanted: &WantedBlock, buffer: &mut [u8]) -> 
     ensures writes { buffer.new ≡ filled (look (D.meaning deck.old) wanted.now.reel wanted.now.block) buffer.old }
 {
     match deck.fetch(wanted.reel, wanted.block, buffer) {
-        Ok(Kind::Record(_)) | Err(_) => true,
+        Ok(Some(Kind::Record(_))) | Err(_) => true,
         Ok(_) => false,
     }
 }

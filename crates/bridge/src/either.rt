@@ -22,14 +22,19 @@ impl<A: Deck, B: Deck> Deck for Either<A, B> {
         }
     }
 
-    fn kind(&mut self, reel: u32, block: u32) -> Kind {
+    fn kind(&mut self, reel: u32, block: u32) -> Option<Kind<usize>> {
         match self {
             Either::Left(deck) => deck.kind(reel, block),
             Either::Right(deck) => deck.kind(reel, block),
         }
     }
 
-    fn fetch(&mut self, reel: u32, block: u32, buffer: &mut [u8]) -> Result<Kind, Short> {
+    fn fetch(
+        &mut self,
+        reel: u32,
+        block: u32,
+        buffer: &mut [u8],
+    ) -> Result<Option<Kind<usize>>, Short> {
         match self {
             Either::Left(deck) => deck.fetch(reel, block, buffer),
             Either::Right(deck) => deck.fetch(reel, block, buffer),

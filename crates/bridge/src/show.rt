@@ -26,20 +26,20 @@ struct Seen {
     buffer: Vec<u8>,
 }
 
-// 1 and the length for a record, 2 for a mark, 3 for a bad block, 0 for none.
-fn kind_number(kind: Kind) -> (u64, u64)
+// 1 and the length for a record, 2 for a mark, 3 for a bad block, 0 for none. Numbers, since they go to C.
+fn kind_number(kind: Option<Kind<usize>>) -> (u64, u64)
     ensures { result ≡ kind_number kind }
 {
     match kind {
-        Kind::Record(length) => (1, length as u64),
-        Kind::Mark => (2, 0),
-        Kind::Bad => (3, 0),
-        Kind::Absent => (0, 0),
+        Some(Kind::Record(length)) => (1, length as u64),
+        Some(Kind::Mark) => (2, 0),
+        Some(Kind::Bad) => (3, 0),
+        None => (0, 0),
     }
 }
 
 // The same, and 4 for a buffer that is too short.
-fn fetch_number(fetched: Result<Kind, Short>) -> (u64, u64)
+fn fetch_number(fetched: Result<Option<Kind<usize>>, Short>) -> (u64, u64)
     ensures { result ≡ fetch_number fetched }
 {
     match fetched {

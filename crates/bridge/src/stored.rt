@@ -6,7 +6,7 @@ ghost use Rattle.bridge.specs.Shows.{piled};
 
 use super::either::Either;
 use deck::Deck;
-use image::{Indexed, Strip, Unopened};
+use image::{Image, Indexed, Strip, Unopened};
 use turner::Turner;
 
 // An image in either form.

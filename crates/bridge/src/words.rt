@@ -48,17 +48,15 @@ fn summary(outline: Outline) -> Words
 fn refused(refusal: reader::Refusal) -> Words
     ensures { result ≡ fault_words (told_refusal refusal) }
 {
-    match refusal {
-        reader::Refusal::Tape(fault) => [
-            5,
-            fault.cause.number() as u64,
-            fault.cause.layer() as u64,
-            fault.reel as u64,
-            fault.block as u64,
-            0,
-        ],
-        reader::Refusal::Caller(fault) => [5, fault.number() as u64, 0, 0, 0, 0],
-    }
+    let report = refusal.report();
+    [
+        5,
+        report.number as u64,
+        report.layer as u64,
+        report.reel as u64,
+        report.block as u64,
+        0,
+    ]
 }
 
 // What a call answered.

@@ -1,6 +1,6 @@
 -- What lies at the place of a block of a strip.
 use Rattle.std.specs.Prelude.{◌≡◌, ℕ, zero, suc, ◌+◌, ◌-◌, ◌<◌, ◌≤◌, List, [], ◌∷◌, ◌++◌, length, get_or, take, drop, Some, None, nat_lt, slice_index_or, refl}
-use Rattle.std.proofs.Common.{sym, ap, subst, ◌∙◌, append_assoc, arith, add-one, lit≤, length-append, length-drop}
+use Rattle.std.proofs.Common.{vec_items, sym, ap, subst, ◌∙◌, append_assoc, arith, add-one, lit≤, length-append, length-drop}
 use Rattle.std.proofs.Math.Seq.{drop-append-add, drop-append_seam}
 use Rattle.std.specs.List.{flat_map}
 use Rattle.std.proofs.lemmas.List.{drop_at, drop-drop}
@@ -9,10 +9,12 @@ use Rattle.std.proofs.lemmas.Bool.Decides.{nat_tests}
 use Rattle.deck.specs.Tape.{Block, written, mark, bad, TapeSet, SoundBlock, look_on, look}
 use Rattle.deck.specs.Words.{word, value}
 use Rattle.deck.proofs.Looks.{block_sound, reel_sound, nth-there}
-use Rattle.image.specs.Stored.{stored, stored_as}
-use Rattle.image.specs.Strip.{block_bytes, reel_bytes, encoded, size, meant, place}
+use Rattle.image.specs.Opened.{strip_set}
+use Rattle.image.specs.Stored.{is_set, stored, stored_as}
+use Rattle.image.specs.Strip.{block_bytes, reel_bytes, encoded, size, verdict, meant, place}
 use Rattle.image.specs.Cursor.{stored_at, Reads, Stands}
 use Rattle.image.specs.declared.cursor.Cursor.{Cursor}
+use Rattle.image.specs.declared.strip.Strip.{Strip}
 use Rattle.image.specs.Found.{lent, lent_if, found_at}
 use Rattle.deck.specs.declared.Kind.{Kind}
 use Rattle.image.proofs.Words.{value_word}
@@ -146,7 +148,10 @@ pub record Behind (xs : List ℕ) (c : Cursor) (b : Block) : Type 0 where
   pub stands : Stands xs (moved_back c (stored_as b))
   pub sound : SoundBlock b
 
-pub stands_behind : (xs : List ℕ) (c : Cursor) → Reads xs → Stands xs c → 0 < c.block → Behind xs c (slice_index_or (slice_index_or (meant xs) c.reel []) (c.block - 1) mark)
+abbrev pub block_behind : List ℕ → Cursor → Block
+block_behind xs c = slice_index_or (slice_index_or (meant xs) c.reel []) (c.block - 1) mark
+
+pub stands_behind : (xs : List ℕ) (c : Cursor) → Reads xs → Stands xs c → 0 < c.block → Behind xs c (block_behind xs c)
 stands_behind xs c reads s h =
     let k = c.block - 1 in
     let reel = get_or (meant xs) c.reel [] in
@@ -162,6 +167,19 @@ stands_behind xs c reads s h =
       stands = record { on_reel = s.on_reel; on_block = omega (arith, inside); here = omega (arith, next) };
       sound = there.sound;
     }
+
+-- What an opened strip's own facts say of its cursor.
+pub reads : (s : Strip) → Reads (vec_items s.bytes)
+reads s = record { judged = is_set (verdict (vec_items s.bytes)) s.judged; spells = s.spells }
+
+pub stands : (s : Strip) → Stands (vec_items s.bytes) s.cursor
+stands s = record { on_reel = s.on_reel; on_block = s.on_block; here = s.here }
+
+pub on_there : (s : Strip) → s.cursor.block < length (slice_index_or (strip_set s) s.cursor.reel []) → On (vec_items s.bytes) s.cursor (block_on (vec_items s.bytes) s.cursor)
+on_there s = stands_on (vec_items s.bytes) s.cursor (reads s) (stands s)
+
+pub behind_there : (s : Strip) → 0 < s.cursor.block → Behind (vec_items s.bytes) s.cursor (block_behind (vec_items s.bytes) s.cursor)
+behind_there s = stands_behind (vec_items s.bytes) s.cursor (reads s) (stands s)
 
 -- What is found at a block's place is the block.
 found_as : (xs : List ℕ) (at : ℕ) (b : Block) → BlockAt xs at b → lent xs (at + 4) (stored_as b) ≡ Some b
@@ -187,7 +205,7 @@ looked set reel block r b hr hb on_reel on_block =
     ∙ nth-there (slice_index_or set r []) b mark on_block
 
 -- What is found where the cursor stands is the block that was asked for.
-pub found_there : (xs : List ℕ) (c : Cursor) (reel block : ℕ) → Reads xs → Stands xs c → (1 ≤ reel) × (c.reel ≡ reel - 1) → (1 ≤ block) × (c.block ≡ block - 1) → c.block < length (slice_index_or (meant xs) c.reel []) → found_at xs c.at ≡ look (meant xs) reel block
-found_there xs c reel block reads s hr hb inside =
-    found_block xs c.at (block_on xs c) (stands_on xs c reads s inside).there
-    ∙ sym (looked (meant xs) reel block c.reel c.block hr hb s.on_reel inside)
+pub found_there : (s : Strip) (reel block : ℕ) → (1 ≤ reel) × (s.cursor.reel ≡ reel - 1) → (1 ≤ block) × (s.cursor.block ≡ block - 1) → s.cursor.block < length (slice_index_or (strip_set s) s.cursor.reel []) → found_at (vec_items s.bytes) s.cursor.at ≡ look (strip_set s) reel block
+found_there s reel block hr hb inside =
+    found_block (vec_items s.bytes) s.cursor.at (block_on (vec_items s.bytes) s.cursor) (on_there s inside).there
+    ∙ sym (looked (strip_set s) reel block s.cursor.reel s.cursor.block hr hb s.on_reel inside)

@@ -12,14 +12,14 @@ use Rattle.image.specs.Strip.{block_bytes, reel_bytes, encoded, size, next, chec
 use Rattle.deck.specs.declared.Kind.{Kind}
 use Rattle.deck.specs.declared.Kind.TheVariants.{Record, Mark, Bad}
 use Rattle.image.specs.declared.next.Next.{Next}
-use Rattle.image.specs.declared.next.Next.TheVariants.{Finished, ReelEnds, Holds}
+use Rattle.image.specs.declared.next.Next.TheVariants.{ReelEnds, Holds}
 use Rattle.image.proofs.Words.{Bytes, bytes_drop, value_word, word_value}
 
 -- What is known where a word ends a strip, ends a reel, or is a block's.
-pub finished : (at reels blocks : ℕ) (xs : List ℕ) → next at reels blocks xs ≡ Ok Finished → (length xs ≡ 0) × (0 < reels) × (blocks ≡ 0)
+pub finished : (at reels blocks : ℕ) (xs : List ℕ) → next at reels blocks xs ≡ Ok None → (length xs ≡ 0) × (0 < reels) × (blocks ≡ 0)
 finished at reels blocks xs e = grind (arith, nat_tests)
 
-pub ends : (at reels blocks : ℕ) (xs : List ℕ) → next at reels blocks xs ≡ Ok ReelEnds → (reels < 9) × (4 ≤ length xs) × (value xs ≡ 4294967294)
+pub ends : (at reels blocks : ℕ) (xs : List ℕ) → next at reels blocks xs ≡ Ok (Some ReelEnds) → (reels < 9) × (4 ≤ length xs) × (value xs ≡ 4294967294)
 ends at reels blocks xs e = grind (arith, nat_tests)
 
 -- A check that lets a result through has passed, and so have those behind it.
@@ -41,19 +41,19 @@ Closed (Record n) xs = (n + 8 ≤ length xs) × (value (drop (n + 4) xs) ≡ n)
 Closed Mark xs = Unit {0}
 Closed Bad xs = Unit {0}
 
-closed : (at : ℕ) (s : Kind ℕ) (xs : List ℕ) (t : Kind ℕ) → check_closed at s xs ≡ Ok (Holds t) → (s ≡ t) × Closed s xs
+closed : (at : ℕ) (s : Kind ℕ) (xs : List ℕ) (t : Kind ℕ) → check_closed at s xs ≡ Ok (Some (Holds t)) → (s ≡ t) × Closed s xs
 closed at (Record n) xs t e =
-    let last = cond {A = Verdict Next} (value (drop (n + 4) xs) == n) (Ok (Holds (Record n))) (Err (2, at + (n + 4))) in
-    let fit = past (nat_lt (length xs) (n + 8)) (1, at) last (Holds t) e in
-    let same = chosen (value (drop (n + 4) xs) == n) (2, at + (n + 4)) (Holds (Record n)) (Holds t) fit.1 in
+    let last = cond {A = Verdict (Option Next)} (value (drop (n + 4) xs) == n) (Ok (Some (Holds (Record n)))) (Err (2, at + (n + 4))) in
+    let fit = past (nat_lt (length xs) (n + 8)) (1, at) last (Some (Holds t)) e in
+    let same = chosen (value (drop (n + 4) xs) == n) (2, at + (n + 4)) (Some (Holds (Record n))) (Some (Holds t)) fit.1 in
     (cc, (ltb-false _ _ fit.0, eqb-true _ _ same.0))
 closed at Mark xs t e = (cc, tt)
 closed at Bad xs t e = (cc, tt)
 
-kept : (at blocks : ℕ) (o : Option (Kind ℕ)) (xs : List ℕ) (t : Kind ℕ) → check_kind at blocks o xs ≡ Ok (Holds t) → (blocks < 65535) × (o ≡ Some t) × Closed t xs
+kept : (at blocks : ℕ) (o : Option (Kind ℕ)) (xs : List ℕ) (t : Kind ℕ) → check_kind at blocks o xs ≡ Ok (Some (Holds t)) → (blocks < 65535) × (o ≡ Some t) × Closed t xs
 kept at blocks None xs t e = let z : ◌≡◌ {A = ℕ} 0 1 = cc in absurd (omega arith)
 kept at blocks (Some s) xs t e =
-    let room = past (nat_le 65535 blocks) (3, at) (check_closed at s xs) (Holds t) e in
+    let room = past (nat_le 65535 blocks) (3, at) (check_closed at s xs) (Some (Holds t)) e in
     let is = closed at s xs t room.1 in
     (leb-false _ _ room.0, ap Some is.0, subst (λ u. Closed u xs) is.0 is.1)
 
@@ -65,12 +65,12 @@ pub record Held (reels blocks : ℕ) (xs : List ℕ) (s : Kind ℕ) : Type 0 whe
   pub kind : stored (value xs) ≡ Some s
   pub closing : Closed s xs
 
-pub held : (at reels blocks : ℕ) (xs : List ℕ) (s : Kind ℕ) → next at reels blocks xs ≡ Ok (Holds s) → Held reels blocks xs s
+pub held : (at reels blocks : ℕ) (xs : List ℕ) (s : Kind ℕ) → next at reels blocks xs ≡ Ok (Some (Holds s)) → Held reels blocks xs s
 held at reels blocks xs s e =
-    let go = other (length xs == 0 && (nat_lt 0 reels && blocks == 0)) (Ok Finished) (check_whole at reels blocks xs) (Holds s) (λ h. let z : ◌≡◌ {A = ℕ} 0 1 = cc in omega arith) e in
-    let left = past (nat_le 9 reels) (3, at) (cond (nat_lt (length xs) 4) (Err (1, at)) (check_word at blocks (value xs) xs)) (Holds s) go.1 in
-    let long = past (nat_lt (length xs) 4) (1, at) (check_word at blocks (value xs) xs) (Holds s) left.1 in
-    let word = other (value xs == 4294967294) (Ok ReelEnds) (check_kind at blocks (stored (value xs)) xs) (Holds s) (λ h. let z : ◌≡◌ {A = ℕ} 0 1 = cc in omega arith) long.1 in
+    let go = other (length xs == 0 && (nat_lt 0 reels && blocks == 0)) (Ok None) (check_whole at reels blocks xs) (Some (Holds s)) (λ h. let z : ◌≡◌ {A = ℕ} 0 1 = cc in omega arith) e in
+    let left = past (nat_le 9 reels) (3, at) (cond (nat_lt (length xs) 4) (Err (1, at)) (check_word at blocks (value xs) xs)) (Some (Holds s)) go.1 in
+    let long = past (nat_lt (length xs) 4) (1, at) (check_word at blocks (value xs) xs) (Some (Holds s)) left.1 in
+    let word = other (value xs == 4294967294) (Ok (Some ReelEnds)) (check_kind at blocks (stored (value xs)) xs) (Some (Holds s)) (λ h. let z : ◌≡◌ {A = ℕ} 0 1 = cc in omega arith) long.1 in
     let k = kept at blocks (stored (value xs)) xs s word.1 in
     record {
       reels_left = leb-false _ _ left.0;
@@ -146,7 +146,7 @@ pub record Means (reels : TapeSet) (reel : Reel) (xs : List ℕ) (set : TapeSet)
   pub sound : Sound set
   pub spells : Bytes xs → encoded reels ++ (flat_map block_bytes reel ++ xs) ≡ encoded set
 
-means_finished : (at : ℕ) (reels : TapeSet) (reel : Reel) (xs : List ℕ) (set : TapeSet) → Read reels reel → next at (length reels) (length reel) xs ≡ Ok Finished → reels ≡ set → Means reels reel xs set
+means_finished : (at : ℕ) (reels : TapeSet) (reel : Reel) (xs : List ℕ) (set : TapeSet) → Read reels reel → next at (length reels) (length reel) xs ≡ Ok None → reels ≡ set → Means reels reel xs set
 means_finished at reels reel xs set r n e =
     let f = finished at (length reels) (length reel) xs n in
     let no_bytes : xs ≡ [] = nil_from_length xs f.0 in
@@ -163,7 +163,7 @@ encoded_more reels reel = sym (flat_map_more reel_bytes [] reels reel)
 pub blocks_more : (reel : Reel) (b : Block) → flat_map block_bytes (reel ++ b ∷ []) ≡ flat_map block_bytes reel ++ block_bytes b
 blocks_more reel b = sym (flat_map_more block_bytes [] reel b)
 
-means_ends : (at : ℕ) (reels : TapeSet) (reel : Reel) (xs : List ℕ) (set : TapeSet) → Read reels reel → next at (length reels) (length reel) xs ≡ Ok ReelEnds → Means (reels ++ reel ∷ []) [] (drop 4 xs) set → Means reels reel xs set
+means_ends : (at : ℕ) (reels : TapeSet) (reel : Reel) (xs : List ℕ) (set : TapeSet) → Read reels reel → next at (length reels) (length reel) xs ≡ Ok (Some ReelEnds) → Means (reels ++ reel ∷ []) [] (drop 4 xs) set → Means reels reel xs set
 means_ends at reels reel xs set r n m =
     let f = ends at (length reels) (length reel) xs n in
     record {
@@ -175,7 +175,7 @@ means_ends at reels reel xs set r n m =
           ∙ m.spells (bytes_drop xs 4 b);
     }
 
-read_ends : (at : ℕ) (reels : TapeSet) (reel : Reel) (xs : List ℕ) → Read reels reel → next at (length reels) (length reel) xs ≡ Ok ReelEnds → Read (reels ++ reel ∷ []) []
+read_ends : (at : ℕ) (reels : TapeSet) (reel : Reel) (xs : List ℕ) → Read reels reel → next at (length reels) (length reel) xs ≡ Ok (Some ReelEnds) → Read (reels ++ reel ∷ []) []
 read_ends at reels reel xs r n =
     let f = ends at (length reels) (length reel) xs n in
     record {
@@ -185,7 +185,7 @@ read_ends at reels reel xs r n =
       blocks = tt;
     }
 
-means_holds : (at : ℕ) (reels : TapeSet) (reel : Reel) (xs : List ℕ) (set : TapeSet) (s : Kind ℕ) → next at (length reels) (length reel) xs ≡ Ok (Holds s) → Means reels (reel ++ block s (drop 4 xs) ∷ []) (drop (size s) xs) set → Means reels reel xs set
+means_holds : (at : ℕ) (reels : TapeSet) (reel : Reel) (xs : List ℕ) (set : TapeSet) (s : Kind ℕ) → next at (length reels) (length reel) xs ≡ Ok (Some (Holds s)) → Means reels (reel ++ block s (drop 4 xs) ∷ []) (drop (size s) xs) set → Means reels reel xs set
 means_holds at reels reel xs set s n m =
     let h = held at (length reels) (length reel) xs s n in
     let b = block s (drop 4 xs) in
@@ -198,7 +198,7 @@ means_holds at reels reel xs set s n m =
           ∙ m.spells (bytes_drop xs (size s) bytes);
     }
 
-read_holds : (at : ℕ) (reels : TapeSet) (reel : Reel) (xs : List ℕ) (s : Kind ℕ) → Read reels reel → next at (length reels) (length reel) xs ≡ Ok (Holds s) → Read reels (reel ++ block s (drop 4 xs) ∷ [])
+read_holds : (at : ℕ) (reels : TapeSet) (reel : Reel) (xs : List ℕ) (s : Kind ℕ) → Read reels reel → next at (length reels) (length reel) xs ≡ Ok (Some (Holds s)) → Read reels (reel ++ block s (drop 4 xs) ∷ [])
 read_holds at reels reel xs s r n =
     let h = held at (length reels) (length reel) xs s n in
     record {
@@ -209,12 +209,12 @@ read_holds at reels reel xs s r n =
     }
 
 -- A strip that is judged to be a set is its encoding, and the set is sound.
-means_on : (words : ℕ) (set : TapeSet) → ((reels : TapeSet) (reel : Reel) (at : ℕ) (xs : List ℕ) → Read reels reel → judge words reels reel at xs ≡ Ok set → Means reels reel xs set) → (reels : TapeSet) (reel : Reel) (at : ℕ) (xs : List ℕ) (v : Verdict Next) → Read reels reel → next at (length reels) (length reel) xs ≡ v → follow (judge words) reels reel at xs v ≡ Ok set → Means reels reel xs set
+means_on : (words : ℕ) (set : TapeSet) → ((reels : TapeSet) (reel : Reel) (at : ℕ) (xs : List ℕ) → Read reels reel → judge words reels reel at xs ≡ Ok set → Means reels reel xs set) → (reels : TapeSet) (reel : Reel) (at : ℕ) (xs : List ℕ) (v : Verdict (Option Next)) → Read reels reel → next at (length reels) (length reel) xs ≡ v → follow (judge words) reels reel at xs v ≡ Ok set → Means reels reel xs set
 means_on words set rest reels reel at xs (Err e) r n f = let z : ◌≡◌ {A = ℕ} 0 1 = cc in absurd (omega arith)
-means_on words set rest reels reel at xs (Ok Finished) r n f = means_finished at reels reel xs set r n (cc)
-means_on words set rest reels reel at xs (Ok ReelEnds) r n f =
+means_on words set rest reels reel at xs (Ok None) r n f = means_finished at reels reel xs set r n (cc)
+means_on words set rest reels reel at xs (Ok (Some ReelEnds)) r n f =
     means_ends at reels reel xs set r n (rest (reels ++ reel ∷ []) [] (at + 4) (drop 4 xs) (read_ends at reels reel xs r n) f)
-means_on words set rest reels reel at xs (Ok (Holds s)) r n f =
+means_on words set rest reels reel at xs (Ok (Some (Holds s))) r n f =
     means_holds at reels reel xs set s n (rest reels (reel ++ block s (drop 4 xs) ∷ []) (at + size s) (drop (size s) xs) (read_holds at reels reel xs s r n) f)
 
 pub means : (words : ℕ) (set : TapeSet) (reels : TapeSet) (reel : Reel) (at : ℕ) (xs : List ℕ) → Read reels reel → judge words reels reel at xs ≡ Ok set → Means reels reel xs set
@@ -237,7 +237,7 @@ passes at reels blocks xs r l = grind (arith, nat_tests)
 room : (at blocks : ℕ) (s : Kind ℕ) (xs : List ℕ) → blocks < 65535 → check_kind at blocks (Some s) xs ≡ check_closed at s xs
 room at blocks s xs l = cond-false (nat_le 65535 blocks) (Err (3, at)) (check_closed at s xs) (lt-leb 65535 blocks l)
 
-next_end : (at reels blocks : ℕ) (ys : List ℕ) → reels < 9 → next at reels blocks (word 4294967294 ++ ys) ≡ Ok ReelEnds
+next_end : (at reels blocks : ℕ) (ys : List ℕ) → reels < 9 → next at reels blocks (word 4294967294 ++ ys) ≡ Ok (Some ReelEnds)
 next_end at reels blocks ys r = passes at reels blocks (word 4294967294 ++ ys) r (omega arith)
 
 stored_record : (n : ℕ) → 1 ≤ n → n ≤ 5388 → stored n ≡ Some (Record n)
@@ -245,14 +245,14 @@ stored_record n l u = grind (arith, nat_tests)
 
 word_record : (at blocks n : ℕ) (xs : List ℕ) → blocks < 65535 → 1 ≤ n → n ≤ 5388 → check_word at blocks n xs ≡ check_closed at (Record n) xs
 word_record at blocks n xs b l u =
-    cond-false (n == 4294967294) (Ok ReelEnds) (check_kind at blocks (stored n) xs) (ne_eqb n 4294967294 (λ e. omega arith))
+    cond-false (n == 4294967294) (Ok (Some ReelEnds)) (check_kind at blocks (stored n) xs) (ne_eqb n 4294967294 (λ e. omega arith))
     ∙ ap (λ o. check_kind at blocks o xs) (stored_record n l u)
     ∙ room at blocks (Record n) xs b
 
-closing_record : (at n : ℕ) (xs : List ℕ) → n + 8 ≤ length xs → value (drop (n + 4) xs) ≡ n → check_closed at (Record n) xs ≡ Ok (Holds (Record n))
+closing_record : (at n : ℕ) (xs : List ℕ) → n + 8 ≤ length xs → value (drop (n + 4) xs) ≡ n → check_closed at (Record n) xs ≡ Ok (Some (Holds (Record n)))
 closing_record at n xs l e = grind (arith, nat_tests)
 
-next_written : (at reels blocks : ℕ) (bytes ys : List ℕ) → reels < 9 → blocks < 65535 → 1 ≤ length bytes → length bytes ≤ 5388 → next at reels blocks (block_bytes (written bytes) ++ ys) ≡ Ok (Holds (Record (length bytes)))
+next_written : (at reels blocks : ℕ) (bytes ys : List ℕ) → reels < 9 → blocks < 65535 → 1 ≤ length bytes → length bytes ≤ 5388 → next at reels blocks (block_bytes (written bytes) ++ ys) ≡ Ok (Some (Holds (Record (length bytes))))
 next_written at reels blocks bytes ys r b l u =
     let n = length bytes in
     let xs = block_bytes (written bytes) ++ ys in
@@ -266,7 +266,7 @@ next_written at reels blocks bytes ys r b l u =
     ∙ word_record at blocks n xs b l u
     ∙ closing_record at n xs (omega arith) closes
 
-pub next_block : (at reels blocks : ℕ) (b : Block) (ys : List ℕ) → reels < 9 → blocks < 65535 → SoundBlock b → next at reels blocks (block_bytes b ++ ys) ≡ Ok (Holds (stored_as b))
+pub next_block : (at reels blocks : ℕ) (b : Block) (ys : List ℕ) → reels < 9 → blocks < 65535 → SoundBlock b → next at reels blocks (block_bytes b ++ ys) ≡ Ok (Some (Holds (stored_as b)))
 next_block at reels blocks (written bytes) ys r l s = next_written at reels blocks bytes ys r l s.0 s.1
 next_block at reels blocks mark ys r l s = passes at reels blocks (word 0 ++ ys) r (omega arith) ∙ room at blocks Mark (word 0 ++ ys) l
 next_block at reels blocks bad ys r l s = passes at reels blocks (word 4294967295 ++ ys) r (omega arith) ∙ room at blocks Bad (word 4294967295 ++ ys) l
@@ -302,7 +302,7 @@ judge_end : (words : ℕ) (reels : TapeSet) (reel : Reel) (at : ℕ) (ys : List 
 judge_end words reels reel at ys r = ap (follow (judge words) reels reel at (word 4294967294 ++ ys)) (next_end at (length reels) (length reel) ys r)
 
 judge_finished : (words : ℕ) (reels : TapeSet) (at : ℕ) → 0 < length reels → judge (suc words) reels [] at [] ≡ Ok reels
-judge_finished words reels at h = ap (follow (judge words) reels [] at []) (cond-true (nat_lt 0 (length reels) && 0 == 0) (Ok Finished) (check_whole at (length reels) 0 []) (and_from (nat_lt 0 (length reels)) (0 == 0) (lt-ltb 0 (length reels) h) refl))
+judge_finished words reels at h = ap (follow (judge words) reels [] at []) (cond-true (nat_lt 0 (length reels) && 0 == 0) (Ok None) (check_whole at (length reels) 0 []) (and_from (nat_lt 0 (length reels)) (0 == 0) (lt-ltb 0 (length reels) h) refl))
 
 judge_reads : (words : ℕ) (reels : TapeSet) (reel todo : Reel) (rest : TapeSet) (at : ℕ) → SoundBlocks todo → length reel + length todo ≤ 65535 → SoundReels rest → length reels + length rest < 9 → length (strip_left todo rest) < words → judge words reels reel at (strip_left todo rest) ≡ Ok (reels ++ (reel ++ todo) ∷ rest)
 judge_reads zero reels reel todo rest at s l r f w = absurd (omega arith)

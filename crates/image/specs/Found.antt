@@ -32,6 +32,7 @@ found_at xs at = lent_if xs (at + 4) (stored_at xs at)
 abbrev pub listed_at : List ℕ → ℕ → Option Block
 listed_at xs at = lent_if xs (value (drop at xs)) (stored_at xs (at + 4))
 
-abbrev pub found_if : List ℕ → Option ℕ → Option Block
-found_if xs None = None
-found_if xs (Some at) = found_at xs at
+-- What is found at a place, if there is one to look at.
+abbrev pub found_where : List ℕ → Option ℕ → Option Block
+found_where xs None = None
+found_where xs (Some at) = found_at xs at

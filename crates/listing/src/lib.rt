@@ -7,7 +7,7 @@ ghost use Rattle.listing.specs.Blocks.{blocks_text};
 ghost use Rattle.listing.specs.Strips.{refusal_text, strip_text};
 
 use deck::Deck;
-use image::{Refusal, Strip};
+use image::{Image, Refusal, Strip};
 use std::alloc::{AllocError, Global};
 
 mod bands;

@@ -7,7 +7,7 @@ use super::bands::bands_listing;
 use super::lines::{fault_line, set_line};
 use super::refusal;
 use deck::Deck;
-use image::Strip;
+use image::{Image, Strip};
 use reader::Reader;
 use std::alloc::{AllocError, Global};
 

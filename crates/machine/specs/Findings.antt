@@ -1,5 +1,5 @@
 -- The machine before its first block, and what it has found behind the last.
-use Rattle.std.specs.Prelude.{ℕ, ◌/◌, take, drop, replicate}
+use Rattle.std.specs.Prelude.{ℕ, ◌/◌, take, drop, Some, replicate}
 use Rattle.records.specs.Bands.{no_bands}
 use Rattle.records.specs.Layouts.{stride}
 use Rattle.records.specs.declared.header.Content.TheVariants.{One}
@@ -23,7 +23,7 @@ nothing_read = record { content = One 0; trailers = 0; header = place_of 0 0; tr
 abbrev pub start : ℕ → Machine
 start reels = record {
   reels = reels;
-  expect = Directory Header;
+  expect = Directory (Some Header);
   directory = replicate 360 0;
   layout = record { form = Sequential; mission = 1; correction = Corrected };
   group = nothing_read;

@@ -104,17 +104,17 @@ abbrev pub size : Machine → ℕ
 size m = record_length m.layout.form
 
 -- A directory: the first names the layout; a later one equals it in all but its reel's digit, which is checked last.
-abbrev pub first : Machine → Onward → List ℕ → Option Layout → Result Machine ℕ
+abbrev pub first : Machine → Option Onward → List ℕ → Option Layout → Result Machine ℕ
 first m on xs None = Err 31
 first m on xs (Some l) = Ok (expecting (headed_by m xs l) (expects.DirectoryMark on))
 
-abbrev pub later : Machine → Place → Onward → List ℕ → Result Machine ℕ
+abbrev pub later : Machine → Place → Option Onward → List ℕ → Result Machine ℕ
 later m at on xs =
     cond (same_directory m.directory xs)
     (cond (byte xs 19 == 48 + at.reel) (Ok (expecting m (expects.DirectoryMark on))) (Err 31))
     (Err 32)
 
-abbrev pub on_directory : Machine → Place → Onward → List ℕ → Result Machine ℕ
+abbrev pub on_directory : Machine → Place → Option Onward → List ℕ → Result Machine ℕ
 on_directory m at on xs =
     passed (checked xs 360 9 1) (cond (at.reel == 1) (first m on xs (first_directory xs m.reels)) (later m at on xs))
 
@@ -215,17 +215,17 @@ on_resumed m at xs = cond (byte xs 6 == 246) (on_first_trailer m at xs) (on_imag
 -- A second mark ends a reel. Behind an image file more must come; behind a trailer file more may come only where bands follow each other.
 -- The last reel of several has a third mark.
 abbrev pub ends_in_image : Machine → Place → Result Machine ℕ
-ends_in_image m at = cond (nat_lt at.reel m.reels) (Ok (expecting m (expects.End onwards.Image))) (Err 37)
+ends_in_image m at = cond (nat_lt at.reel m.reels) (Ok (expecting m (expects.End (Some onwards.Image)))) (Err 37)
 
 abbrev pub goes_on : Form → Machine → Result Machine ℕ
 goes_on Interleaved m = Err 37
-goes_on Sequential m = Ok (expecting m (expects.End onwards.Header))
+goes_on Sequential m = Ok (expecting m (expects.End (Some onwards.Header)))
 goes_on Vidicon m = Err 37
 
 abbrev pub ends_behind_trailer : Machine → Place → Result Machine ℕ
 ends_behind_trailer m at =
     cond (nat_lt at.reel m.reels) (goes_on m.layout.form m)
-    (Ok (expecting m (cond (m.reels == 1) (expects.End onwards.Nothing) expects.LastMark)))
+    (Ok (expecting m (cond (m.reels == 1) (expects.End None) expects.LastMark)))
 
 -- Behind the mark of a trailer file a record is the next header, where bands follow each other.
 abbrev pub next_group : Form → Machine → Place → List ℕ → Result Machine ℕ
@@ -234,10 +234,10 @@ next_group Sequential m at xs = on_header m at xs
 next_group Vidicon m at xs = Err 22
 
 -- What stands behind a directory's mark.
-abbrev pub onward_expect : Onward → Expect
-onward_expect onwards.Header = expects.Header
-onward_expect onwards.Image = expects.Resumed
-onward_expect onwards.Nothing = expects.Header
+abbrev pub onward_expect : Option Onward → Expect
+onward_expect (Some onwards.Header) = expects.Header
+onward_expect (Some onwards.Image) = expects.Resumed
+onward_expect None = expects.Header
 
 -- A record comes.
 abbrev pub on_record : Expect → Machine → Place → List ℕ → Result Machine ℕ
@@ -270,7 +270,7 @@ on_mark expects.Resumed m at = Err 21
 on_mark (expects.Trailer n) m at = Err 21
 on_mark expects.TrailerMark m at = Ok (expecting (closed m) expects.BehindTrailer)
 on_mark expects.BehindTrailer m at = ends_behind_trailer m at
-on_mark expects.LastMark m at = Ok (expecting m (expects.End onwards.Nothing))
+on_mark expects.LastMark m at = Ok (expecting m (expects.End None))
 on_mark (expects.End on) m at = Err 38
 
 -- A bad block comes.

@@ -9,7 +9,9 @@ use records::{Cause, Content, Form, IMAGE, SetFault, TRAILER, check, present};
 // The most lines of a band.
 const MOST_LINES: u32 = 8192;
 
-// Whether every byte of a body is zero. The bits of all are gathered and asked for once, which is quicker than to ask at each byte.
+// Whether every byte of a body is zero. A loop and no `all`: the bits of all are gathered and asked for once, which is quicker than to ask at each
+// byte.
+#[tactic(auto, using(crate::proofs::Zeros::zero_more, crate::proofs::Zeros::zero_all))]
 fn all_zero(body: &[u8]) -> bool
     ensures { result ≡ all_zero body.now }
 {
@@ -21,6 +23,7 @@ fn all_zero(body: &[u8]) -> bool
 }
 
 // The same of a record's body, which begins with its seventh byte.
+#[tactic(auto, using(std::proofs::lemmas::List::take_rest))]
 fn zero_body(bytes: &[u8]) -> bool
     requires { 6 ≤ length bytes.now }
     ensures { result ≡ all_zero (drop 6 bytes.now) }
@@ -29,7 +32,8 @@ fn zero_body(bytes: &[u8]) -> bool
 }
 
 impl Group {
-    // One image block more on a reel. There are nine reels at most.
+    // One image block more on a reel. There are nine reels at most. The index is tested, since no proof knows the elements behind an array's
+    // `get_mut`.
     fn add_block(&mut self, reel: u32)
         requires { self.old.blocks < 4294967295 }
         ensures { self.new ≡ one_more self.old reel }
@@ -58,8 +62,7 @@ impl Machine {
     {
         match self.layout.form {
             Form::Interleaved => MOST_LINES * self.layout.stride(),
-            Form::Sequential => MOST_LINES,
-            Form::Vidicon => MOST_LINES,
+            Form::Sequential | Form::Vidicon => MOST_LINES,
         }
     }
 
@@ -84,7 +87,7 @@ impl Machine {
         ensures says { stepped result self.new ≡ on_image self.old at bytes.now }
         ensures stays_steady { Steady self.old → OnOk result (Steady self.new) }
     {
-        let number = self.group.blocks as u64 + 1;
+        let number = u64::from(self.group.blocks) + 1;
         check(bytes, self.layout.form.record_length(), IMAGE, number)?;
         let zero = !self.misses() || zero_body(bytes);
         self.line(at, zero)?;
@@ -128,7 +131,7 @@ impl Machine {
     {
         check(bytes, self.layout.form.record_length(), TRAILER, 1)?;
         if !self.lines_agree() {
-            return Err(Cause::Set(SetFault::Lines));
+            return Err(SetFault::Lines.into());
         }
         self.group.trailer = at;
         self.expect = self.behind_trailer(1);
@@ -143,7 +146,7 @@ impl Machine {
             bytes,
             self.layout.form.record_length(),
             TRAILER,
-            number as u64,
+            u64::from(number),
         )?;
         self.expect = self.behind_trailer(number);
         Ok(())
@@ -155,7 +158,7 @@ impl Machine {
         ensures stays_steady { Steady self.old → OnOk result (Steady self.new) }
     {
         match bytes.get(5) {
-            Some(kind) if *kind == TRAILER => self.first_trailer(at, bytes),
+            Some(&TRAILER) => self.first_trailer(at, bytes),
             _ => self.image(at, bytes),
         }
     }

@@ -1,5 +1,8 @@
 // The survey's machine: what it has read, and what it expects.
-use records::{Bands, Content, DIRECTORY_LENGTH, Layout};
+ghost use Rattle.std.specs.Prelude.{◌≡◌};
+ghost use Rattle.machine.specs.Machines.{fresh};
+
+use records::{Bands, Content, DIRECTORY_LENGTH, Header, Layout};
 
 // A block of a reel, both counted from 1.
 #[derive(Clone, Copy, PartialEq, Eq, Debug)]
@@ -8,21 +11,19 @@ pub struct Place {
     pub block: u32,
 }
 
-// What stands on the next reel behind its directory's mark: a header; or an image file that goes on, or that has just ended. `Nothing`: no reel
-// follows.
+// What stands on the next reel behind its directory's mark: a header; or an image file that goes on, or that has just ended.
 #[derive(Clone, Copy)]
 pub enum Onward {
     Header,
     Image,
-    Nothing,
 }
 
 // What must come next.
 #[derive(Clone, Copy)]
 pub enum Expect {
-    // a reel's directory, and its mark
-    Directory(Onward),
-    DirectoryMark(Onward),
+    // a reel's directory, and its mark, with what follows there if a reel follows
+    Directory(Option<Onward>),
+    DirectoryMark(Option<Onward>),
     // a header; the attribute record of a number; the mark behind these
     Header,
     Attribute(u32),
@@ -42,7 +43,7 @@ pub enum Expect {
     // the third mark that closes a set of several reels
     LastMark,
     // no block: the reel is over
-    End(Onward),
+    End(Option<Onward>),
 }
 
 // A group of files: what its header says, where its header and its first trailer stand, how many image blocks it has, and how many of them
@@ -57,6 +58,23 @@ pub struct Group {
     pub through: [u32; 9],
 }
 
+impl Group {
+    // A group that a header begins.
+    pub(crate) fn begun_by(header: Header, at: Place) -> Self
+        ensures { result ≡ fresh header at }
+    {
+        Group {
+            content: header.content,
+            trailers: header.trailers,
+            header: at,
+            trailer: at,
+            blocks: 0,
+            through: [0; 9],
+        }
+    }
+}
+
+// `Steady` stands in the contracts of the steps and not here as an invariant: anyone may set the fields, and `new` takes any number of reels.
 #[derive(Clone, Copy)]
 pub struct Machine {
     // the deck's reels
@@ -65,7 +83,7 @@ pub struct Machine {
     // the first directory, and what it says
     pub directory: [u8; DIRECTORY_LENGTH],
     pub layout: Layout,
-    // the group that is read, and those that have been read
+    // the group that is read, and those that have been read: a table of five and a count, since there is no heap and a machine is copied whole
     pub group: Group,
     pub groups: usize,
     pub table: [Group; 5],

@@ -12,13 +12,15 @@ use records::{
 };
 
 impl Machine {
-    fn first(&mut self, bytes: &[u8; DIRECTORY_LENGTH], onward: Onward) -> Result<(), SetFault>
+    fn first(
+        &mut self,
+        bytes: &[u8; DIRECTORY_LENGTH],
+        onward: Option<Onward>,
+    ) -> Result<(), SetFault>
         ensures says { set_stepped result self.new ≡ first self.old onward bytes.now (first_directory bytes.now self.old.reels) }
         ensures stays_steady { Steady self.old → OnOk result (Steady self.new) }
     {
-        let Some(layout) = first_directory(bytes, self.reels) else {
-            return Err(SetFault::Directory);
-        };
+        let layout = first_directory(bytes, self.reels).ok_or(SetFault::Directory)?;
         self.directory = *bytes;
         self.layout = layout;
         self.expect = Expect::DirectoryMark(onward);
@@ -29,7 +31,7 @@ impl Machine {
         &mut self,
         at: Place,
         bytes: &[u8; DIRECTORY_LENGTH],
-        onward: Onward,
+        onward: Option<Onward>,
     ) -> Result<(), SetFault>
         ensures says { set_stepped result self.new ≡ later self.old at onward bytes.now }
         ensures stays_steady { Steady self.old → OnOk result (Steady self.new) }
@@ -37,14 +39,14 @@ impl Machine {
         if !same_directory(&self.directory, bytes) {
             return Err(SetFault::OtherDirectory);
         }
-        if bytes[18] as u64 != b'0' as u64 + at.reel as u64 {
+        if u64::from(bytes[18]) != u64::from(b'0') + u64::from(at.reel) {
             return Err(SetFault::Directory);
         }
         self.expect = Expect::DirectoryMark(onward);
         Ok(())
     }
 
-    fn directory(&mut self, at: Place, bytes: &[u8], onward: Onward) -> Result<(), Cause>
+    fn directory(&mut self, at: Place, bytes: &[u8], onward: Option<Onward>) -> Result<(), Cause>
         ensures says { stepped result self.new ≡ on_directory self.old at onward bytes.now }
         ensures stays_steady { Steady self.old → OnOk result (Steady self.new) }
     {
@@ -69,14 +71,7 @@ impl Machine {
             Content::Mixed(_) => 0,
         };
         let header = read_header(bytes, self.layout, last)?;
-        self.group = Group {
-            content: header.content,
-            trailers: header.trailers,
-            header: at,
-            trailer: at,
-            blocks: 0,
-            through: [0; 9],
-        };
+        self.group = Group::begun_by(header, at);
         self.bands.add_all(header.content);
         self.expect = Expect::Attribute(2);
         Ok(())
@@ -91,7 +86,12 @@ impl Machine {
         } else {
             ANNOTATION
         };
-        check(bytes, self.layout.form.record_length(), kind, number as u64)?;
+        check(
+            bytes,
+            self.layout.form.record_length(),
+            kind,
+            u64::from(number),
+        )?;
         self.expect = if number < self.layout.attributes() {
             Expect::Attribute(number + 1)
         } else {
@@ -106,9 +106,8 @@ impl Machine {
         ensures stays_steady { Steady self.old → OnOk result (Steady self.new) }
     {
         match self.layout.form {
-            Form::Interleaved => Err(Cause::Record(RecordFault::RecordForMark)),
             Form::Sequential => self.header(at, bytes),
-            Form::Vidicon => Err(Cause::Record(RecordFault::RecordForMark)),
+            Form::Interleaved | Form::Vidicon => Err(RecordFault::RecordForMark.into()),
         }
     }
 
@@ -120,7 +119,7 @@ impl Machine {
         if at.reel >= self.reels {
             return Err(SetFault::Finish);
         }
-        self.expect = Expect::End(Onward::Image);
+        self.expect = Expect::End(Some(Onward::Image));
         Ok(())
     }
 
@@ -131,24 +130,24 @@ impl Machine {
     {
         self.expect = if at.reel < self.reels {
             match self.layout.form {
-                Form::Interleaved => return Err(SetFault::Finish),
-                Form::Sequential => Expect::End(Onward::Header),
-                Form::Vidicon => return Err(SetFault::Finish),
+                Form::Sequential => Expect::End(Some(Onward::Header)),
+                Form::Interleaved | Form::Vidicon => return Err(SetFault::Finish),
             }
         } else if self.reels == 1 {
-            Expect::End(Onward::Nothing)
+            Expect::End(None)
         } else {
             Expect::LastMark
         };
         Ok(())
     }
 
-    // The group that is read joins those that have been read. Bands rise, so there are no more than five.
+    // The group that is read joins those that have been read. Bands rise, so there are no more than five. The index is tested, since no proof knows
+    // the elements behind an array's `get_mut`.
     fn close_group(&mut self) -> Result<(), Cause>
         ensures says { stepped result self.new ≡ Ok (expecting (closed self.old) Expect.BehindTrailer) }
         ensures stays_steady { Steady self.old → OnOk result (Steady self.new) }
     {
-        if self.groups < 5 {
+        if self.groups < self.table.len() {
             self.table[self.groups] = self.group;
             self.groups += 1;
         }
@@ -165,7 +164,9 @@ impl Machine {
                 at, bytes, onward,
             ),
             (Expect::Directory(_), other) => unexpected(other),
-            (Expect::DirectoryMark(Onward::Image), Some(Kind::Mark)) => self.turn(Expect::Resumed),
+            (Expect::DirectoryMark(Some(Onward::Image)), Some(Kind::Mark)) => self.turn(
+                Expect::Resumed,
+            ),
             (Expect::DirectoryMark(_), Some(Kind::Mark)) => self.turn(Expect::Header),
             (Expect::DirectoryMark(_), other) => unexpected(other),
             (Expect::Header, Some(Kind::Record(bytes))) => self.header(at, bytes),
@@ -194,10 +195,10 @@ impl Machine {
             (Expect::BehindTrailer, Some(Kind::Record(bytes))) => self.next_group(at, bytes),
             (Expect::BehindTrailer, Some(Kind::Mark)) => Ok(self.end_behind_trailer(at)?),
             (Expect::BehindTrailer, other) => unexpected(other),
-            (Expect::LastMark, Some(Kind::Mark)) => self.turn(Expect::End(Onward::Nothing)),
+            (Expect::LastMark, Some(Kind::Mark)) => self.turn(Expect::End(None)),
             (Expect::LastMark, other) => unexpected(other),
             (Expect::End(onward), None) => self.turn(Expect::Directory(onward)),
-            (Expect::End(_), _) => Err(Cause::Set(SetFault::BehindEnd)),
+            (Expect::End(_), _) => Err(SetFault::BehindEnd.into()),
         }
     }
 
@@ -217,8 +218,7 @@ fn deck_layer(seen: Option<Kind<&[u8]>>) -> Result<(), DeckFault>
     match seen {
         None => Err(DeckFault::Absent),
         Some(Kind::Bad) => Err(DeckFault::Bad),
-        Some(Kind::Mark) => Ok(()),
-        Some(Kind::Record(_)) => Ok(()),
+        Some(Kind::Mark | Kind::Record(_)) => Ok(()),
     }
 }
 
@@ -229,8 +229,7 @@ fn record_layer(seen: Option<Kind<&[u8]>>) -> Result<(), RecordFault>
     match seen {
         Some(Kind::Record(_)) => Err(RecordFault::RecordForMark),
         Some(Kind::Mark) => Err(RecordFault::MarkForRecord),
-        Some(Kind::Bad) => Ok(()),
-        None => Ok(()),
+        Some(Kind::Bad) | None => Ok(()),
     }
 }
 

@@ -5,25 +5,19 @@ mod script;
 mod text;
 
 use anyhow::anyhow;
-use deck::Deck;
-use image::{Indexed, Strip, Unopened};
-use script::{Image, Run, runs};
+use image::{Image, Indexed, Strip};
+use script::{Form, Run, runs};
 use std::fs;
 use text::answer_line;
 use witness::play;
 
-// The deck that an image was opened to.
-fn opened<D>(opened: Result<D, Unopened>) -> anyhow::Result<D> {
-    match opened {
-        Ok(deck) => Ok(deck),
-        Err(_) => Err(anyhow!("an image is refused")),
-    }
-}
-
-// Plays a run over its deck: a line for each call.
-fn answer<D: Deck + Drop>(rt: &HostRuntime, deck: D, run: Run) -> anyhow::Result<()> {
+// Opens an image and plays a run over it: a line for each call.
+fn answer<I: Image + Drop>(rt: &HostRuntime, bytes: Vec<u8>, run: Run) -> anyhow::Result<()> {
+    let Ok(deck) = I::open(bytes) else {
+        return Err(anyhow!("an image is refused"));
+    };
     let Run {
-        image: _,
+        form: _,
         name: _,
         lines,
         calls,
@@ -35,16 +29,16 @@ fn answer<D: Deck + Drop>(rt: &HostRuntime, deck: D, run: Run) -> anyhow::Result
     Ok(())
 }
 
-// Opens a run's image and plays the run.
+// Reads a run's image and plays the run.
 fn perform(rt: &HostRuntime, run: Run) -> anyhow::Result<()> {
     let name = run.name;
-    let kind = run.image.word();
-    println!(rt; "{kind} {name}")?;
-    let path = format!(in rt.alloc(); "{name}.{kind}")?;
+    let form = run.form;
+    println!(rt; "{form} {name}")?;
+    let path = format!(in rt.alloc(); "{name}.{form}")?;
     let bytes = fs::read(rt, path.as_str())?;
-    match run.image {
-        Image::Strip => answer(rt, opened(Strip::open(bytes))?, run),
-        Image::Indexed => answer(rt, opened(Indexed::open(bytes))?, run),
+    match form {
+        Form::Strip => answer::<Strip>(rt, bytes, run),
+        Form::Indexed => answer::<Indexed>(rt, bytes, run),
     }
 }
 

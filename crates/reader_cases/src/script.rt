@@ -2,38 +2,40 @@
 use anyhow::anyhow;
 use reader::Call;
 use std::alloc::Global;
+use std::fmt;
 use witness::Asked;
 
 // How a set is stored.
 #[derive(Clone, Copy)]
-pub enum Image {
+pub enum Form {
     Strip,
     Indexed,
 }
 
-impl Image {
-    // The word for it: in a script, and at the end of a file's name.
-    pub fn word(self) -> &'static str {
+// The word for it: in a script, and at the end of a file's name.
+impl fmt::Display for Form {
+    fn fmt<W: fmt::Write>(&self, f: &mut fmt::Formatter<W>) -> fmt::Result {
         match self {
-            Image::Strip => "strip",
-            Image::Indexed => "indexed",
+            Form::Strip => f.write_str("strip"),
+            Form::Indexed => f.write_str("indexed"),
         }
     }
 }
 
-// The calls of a run, in order, and the lines that they are written in.
+// The calls of a run, in order, and the lines that they are written in. Two vectors, since the calls are played as one: a vector of pairs would be
+// taken apart into these two.
 #[derive(Drop)]
 pub struct Run<'a> {
-    pub image: Image,
+    pub form: Form,
     pub name: &'a str,
     pub lines: Vec<&'a str>,
     pub calls: Vec<Asked>,
 }
 
 // A run without calls.
-fn fresh<'a>(heap: Global, image: Image, name: &'a str) -> Run<'a> {
+fn fresh<'a>(heap: Global, form: Form, name: &'a str) -> Run<'a> {
     Run {
-        image,
+        form,
         name,
         lines: Vec::new(heap),
         calls: Vec::new(heap),
@@ -86,8 +88,8 @@ pub fn runs<'a>(heap: Global, text: &'a str) -> anyhow::Result<Vec<Run<'a>>> {
         let words: Vec<&'a str> = line.split_whitespace().collect(heap)?;
         match words.as_slice() {
             [] | ["#", ..] => {}
-            ["strip", name] => runs.push(fresh(heap, Image::Strip, name))?,
-            ["indexed", name] => runs.push(fresh(heap, Image::Indexed, name))?,
+            ["strip", name] => runs.push(fresh(heap, Form::Strip, name))?,
+            ["indexed", name] => runs.push(fresh(heap, Form::Indexed, name))?,
             words => {
                 let asked = asked(heap, words)?;
                 let Some(run) = runs.last_mut() else {

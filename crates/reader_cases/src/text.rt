@@ -1,42 +1,23 @@
 // The line that is printed of an answer.
 ghost use Rattle.std.specs.Prelude.{◌≡◌, IfOk, string_bytes};
 ghost use Rattle.reader.specs.Refusals.{told_refusal};
-ghost use Rattle.reader_cases.specs.Texts.{sensor_text, correction_text, summary_text, answer_text, refusal_text};
+ghost use Rattle.reader_cases.specs.Texts.{summary_text, answer_text, refusal_text};
 
-use reader::{Answer, Outline, Refusal};
-use records::{Correction, Sensor};
+use reader::{Answer, Outline, Refusal, Report};
 use std::alloc::{AllocError, Global};
 use witness::Answered;
-
-// The letter of a sensor, as on tape.
-fn sensor_letter(sensor: Sensor) -> &'static str
-    ensures { result.now ≡ sensor_text sensor }
-{
-    match sensor {
-        Sensor::Mss => "M",
-        Sensor::Rbv => "R",
-    }
-}
-
-// The letters of a correction, as on tape.
-fn correction_letters(correction: Correction) -> &'static str
-    ensures { result.now ≡ correction_text correction }
-{
-    match correction {
-        Correction::Corrected => "CP",
-        Correction::Uncorrected => "CA",
-    }
-}
 
 // A summary: sensor, mission, correction, number of bands, lines.
 fn summary(heap: Global, outline: Outline) -> Result<String, AllocError>
     ensures { IfOk result (λ t. string_bytes t ≡ summary_text outline) }
 {
-    let sensor = sensor_letter(outline.sensor);
-    let mission = outline.mission;
-    let correction = correction_letters(outline.correction);
-    let bands = outline.bands;
-    let lines = outline.lines;
+    let Outline {
+        sensor,
+        mission,
+        correction,
+        bands,
+        lines,
+    } = outline;
     format!(in heap; "set {sensor} {mission} {correction} {bands} {lines}")
 }
 
@@ -52,36 +33,25 @@ fn answer_text(heap: Global, answer: Answer) -> Result<String, AllocError>
 }
 
 // A refusal's number, layer, reel and block. A caller's fault has no place.
-fn told(refusal: Refusal) -> (u32, u32, u32, u32)
-    ensures { result ≡ told_refusal refusal }
-{
-    match refusal {
-        Refusal::Tape(fault) => (
-            fault.cause.number(),
-            fault.cause.layer(),
-            fault.reel,
-            fault.block,
-        ),
-        Refusal::Caller(fault) => (fault.number(), 0, 0, 0),
-    }
-}
-
 fn refusal_text(heap: Global, refusal: Refusal) -> Result<String, AllocError>
     ensures { IfOk result (λ t. string_bytes t ≡ refusal_text (told_refusal refusal)) }
 {
-    let (number, layer, reel, block) = told(refusal);
+    let Report {
+        number,
+        layer,
+        reel,
+        block,
+    } = refusal.report();
     format!(in heap; "refused {number} {layer} {reel} {block}")
 }
 
 // The sum of all bytes, each times its place counted from 1, modulo 2^32.
-fn checksum(bytes: &[u8]) -> u32 {
-    let mut place: u32 = 0;
-    let mut sum: u32 = 0;
-    for byte in bytes {
-        place = place.wrapping_add(1);
-        sum = sum.wrapping_add(place.wrapping_mul(u32::from(*byte)));
+fn checksum(bytes: &[u8]) -> u64 {
+    let mut sum: u64 = 0;
+    for (index, byte) in bytes.iter().enumerate() {
+        sum = sum.wrapping_add((index as u64 + 1).wrapping_mul(u64::from(*byte)));
     }
-    sum
+    sum % (1 << 32)
 }
 
 // A buffer: its length, checksum, first and last byte. Of an empty one nothing is said.

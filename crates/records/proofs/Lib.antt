@@ -1,2 +1,2 @@
 pub mod Directories
-pub mod Headers
+pub mod Codes

@@ -1,10 +1,11 @@
 // The bands that are present, and the byte by which a header tells them.
 ghost use Rattle.std.specs.Prelude.{◌≡◌};
-ghost use Rattle.records.specs.Bands.{weight, present, one_band, if_present, more_bands, no_bands};
+ghost use Rattle.records.specs.Bands.{weight, present, one_band, more_bands, no_bands};
 
 use super::header::Content;
 
-// The codes of the bands present, in rising order: 4 to 8, or a vidicon's letter.
+// The codes of the bands present, in rising order: 4 to 8, or a vidicon's letter. A count stands beside an array, since there is no heap and the
+// bands are copied whole with a machine.
 #[derive(Clone, Copy)]
 pub struct Bands {
     pub count: usize,
@@ -41,21 +42,13 @@ impl Bands {
         }
     }
 
-    // One band more. There are never more than five.
+    // One band more. There are never more than five. The index is tested, since no proof knows the elements behind an array's `get_mut`.
     fn add(&mut self, code: u8)
         ensures { self.new ≡ one_band code self.old }
     {
-        if self.count < 5 {
+        if self.count < self.codes.len() {
             self.codes[self.count] = code;
             self.count += 1;
-        }
-    }
-
-    fn add_if(&mut self, there: bool, code: u8)
-        ensures { self.new ≡ if_present there code self.old }
-    {
-        if there {
-            self.add(code);
         }
     }
 
@@ -66,11 +59,11 @@ impl Bands {
         match content {
             Content::One(code) => self.add(code),
             Content::Mixed(mask) => {
-                self.add_if(present(mask, 0), 4);
-                self.add_if(present(mask, 1), 5);
-                self.add_if(present(mask, 2), 6);
-                self.add_if(present(mask, 3), 7);
-                self.add_if(present(mask, 4), 8);
+                for place in 0..5 {
+                    if present(mask, place) {
+                        self.add(4 + place as u8);
+                    }
+                }
             }
         }
     }

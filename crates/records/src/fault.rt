@@ -49,6 +49,7 @@ pub enum Cause {
     Set(SetFault),
 }
 
+// By hand, as the two below: a derived `From` would promise nothing of the fault's number.
 impl From<DeckFault> for Cause {
     ghost from_gives = { λ e c. number c ≡ deck_number e };
 
@@ -74,7 +75,7 @@ impl From<SetFault> for Cause {
 }
 
 impl Cause {
-    // The fault's number.
+    // The fault's number. It is no `From`, since a fault has its layer's number too.
     pub fn number(self) -> u32
         ensures { result ≡ number self }
     {

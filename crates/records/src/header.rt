@@ -26,15 +26,14 @@ fn counts_fit(bytes: &[u8], layout: Layout) -> bool
 {
     let interleaved = match layout.form {
         Form::Interleaved => layout.stride(),
-        Form::Sequential => 0,
-        Form::Vidicon => 0,
+        Form::Sequential | Form::Vidicon => 0,
     };
     byte_at(bytes, 100) == 0
-        && byte_at(bytes, 101) as u32 == layout.annotations()
+        && u32::from(byte_at(bytes, 101)) == layout.annotations()
         && byte_at(bytes, 104) == 0
-        && byte_at(bytes, 105) as u32 == layout.ancillaries()
+        && u32::from(byte_at(bytes, 105)) == layout.ancillaries()
         && byte_at(bytes, 119) == layout.form.order_byte()
-        && byte_at(bytes, 120) as u32 == interleaved
+        && u32::from(byte_at(bytes, 120)) == interleaved
 }
 
 // The band that the header names. In a sequential set it is above that of the header before.
@@ -43,10 +42,15 @@ fn band_fits(band: u8, layout: Layout, last: u8) -> bool
 {
     match layout.form {
         Form::Interleaved => band == b'0',
-        Form::Sequential => b'4' <= band
-            && (band <= b'7' || band == b'8' && layout.mission == 3)
-            && (last as u32) + 48 < band as u32,
-        Form::Vidicon => b'A' <= band && band <= b'D',
+        Form::Sequential => {
+            let of_mission = match band {
+                b'4'..=b'7' => true,
+                b'8' => layout.mission == 3,
+                _ => false,
+            };
+            of_mission && u32::from(last) + 48 < u32::from(band)
+        }
+        Form::Vidicon => matches!(band, b'A'..=b'D'),
     }
 }
 
@@ -54,7 +58,7 @@ fn band_fits(band: u8, layout: Layout, last: u8) -> bool
 fn trailers_fit(bytes: &[u8]) -> bool
     ensures { result ≡ trailers_fit bytes.now }
 {
-    byte_at(bytes, 143) == 0 && 1 <= byte_at(bytes, 144) && byte_at(bytes, 144) <= 5
+    byte_at(bytes, 143) == 0 && matches!(byte_at(bytes, 144), 1..=5)
 }
 
 // Of interleaved bands at least one is present, and the fifth only where the mission has it.
@@ -62,9 +66,8 @@ fn bands_fit(mask: u8, layout: Layout) -> bool
     ensures { result ≡ bands_fit mask layout }
 {
     match layout.form {
-        Form::Interleaved => 0 < mask && mask < 32 && (layout.mission == 3 || mask % 2 == 0),
-        Form::Sequential => true,
-        Form::Vidicon => true,
+        Form::Interleaved => matches!(mask, 1..=31) && (layout.mission == 3 || mask % 2 == 0),
+        Form::Sequential | Form::Vidicon => true,
     }
 }
 
@@ -80,6 +83,7 @@ fn content_of(band: u8, mask: u8, form: Form) -> Content
 }
 
 // The values of a header, checked in the order of their bytes.
+#[tactic(auto, unfolding(crate::specs::Headers::header))]
 pub fn read_header(bytes: &[u8], layout: Layout, last: u8) -> Result<Header, SetFault>
     ensures { headed result ≡ header bytes.now layout last }
 {
@@ -99,6 +103,6 @@ pub fn read_header(bytes: &[u8], layout: Layout, last: u8) -> Result<Header, Set
     }
     Ok(Header {
         content: content_of(band, mask, layout.form),
-        trailers: byte_at(bytes, 144) as u32,
+        trailers: u32::from(byte_at(bytes, 144)),
     })
 }

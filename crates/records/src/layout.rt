@@ -65,6 +65,7 @@ impl fmt::Display for Correction {
 #[derive(Clone, Copy, PartialEq, Eq, Debug)]
 pub struct Layout {
     pub form: Form,
+    // 1 to 3 where a directory names it; any number, since callers may make a layout
     pub mission: u8,
     pub correction: Correction,
 }
@@ -74,8 +75,7 @@ impl Form {
         ensures { result ≡ sensor_in self }
     {
         match self {
-            Form::Interleaved => Sensor::Mss,
-            Form::Sequential => Sensor::Mss,
+            Form::Interleaved | Form::Sequential => Sensor::Mss,
             Form::Vidicon => Sensor::Rbv,
         }
     }
@@ -85,8 +85,7 @@ impl Form {
         ensures { result ≡ record_length self }
     {
         match self {
-            Form::Interleaved => 3596,
-            Form::Sequential => 3596,
+            Form::Interleaved | Form::Sequential => 3596,
             Form::Vidicon => 5388,
         }
     }
@@ -97,8 +96,7 @@ impl Form {
     {
         match self {
             Form::Interleaved => 255,
-            Form::Sequential => 0,
-            Form::Vidicon => 0,
+            Form::Sequential | Form::Vidicon => 0,
         }
     }
 }

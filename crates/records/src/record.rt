@@ -4,7 +4,7 @@ ghost use Rattle.records.specs.Records.{has_number, checked, recorded};
 
 use super::fault::RecordFault;
 
-// The types of records, by their sixth byte.
+// The types of records, by their sixth byte. They are no enum: `check` takes any byte for a type, and may ask no more of its callers.
 pub const DIRECTORY: u8 = 0o011;
 
 pub const HEADER: u8 = 0o022;
@@ -21,13 +21,10 @@ pub const TRAILER: u8 = 0o366;
 pub(crate) fn byte_at(bytes: &[u8], index: usize) -> u8
     ensures { result ≡ slice_index bytes.now index }
 {
-    match bytes.get(index) {
-        Some(byte) => *byte,
-        None => 0,
-    }
+    bytes.get(index).copied().unwrap_or(0)
 }
 
-// Whether a record begins with its number, in four bytes.
+// Whether a record begins with its number, in four bytes. They are read one by one, since those behind a short record's end count as 0.
 fn numbered(bytes: &[u8], number: u64) -> bool
     ensures { result ≡ has_number bytes.now number }
 {
@@ -39,6 +36,7 @@ fn numbered(bytes: &[u8], number: u64) -> bool
 }
 
 // A record's length, fifth byte, type and number, in that order.
+#[tactic(auto, using(std::proofs::lemmas::Bool::Decides::nat_tests), unfolding(crate::specs::Records::checked))]
 pub fn check(bytes: &[u8], size: usize, kind: u8, number: u64) -> Result<(), RecordFault>
     ensures says { recorded result ≡ checked bytes.now size kind number }
     ensures long { OnOk result (length bytes.now ≡ size) }

@@ -1,5 +1,5 @@
 -- A valid recording is accepted, and the table of places leads to what it says.
-use Rattle.std.proofs.Common.{◌≡◌, ℕ, zero, suc, ◌+◌, ◌-◌, ◌*◌, ◌<◌, ◌≤◌, Bool, true, false, eqb, ltb, ◌⊎◌, List, [], ◌∷◌, ◌++◌, length, get_or, set, Some, Ok, Result, sym, refl, ap, ◌∙◌, subst, inl, inr, ⊎_elim, arith, length-set}
+use Rattle.std.proofs.Common.{◌≡◌, ℕ, zero, suc, ◌+◌, ◌-◌, ◌*◌, ◌<◌, ◌≤◌, Bool, true, false, eqb, ltb, ◌⊎◌, List, [], ◌∷◌, ◌++◌, length, get_or, set, Some, Ok, Result, sym, refl, ap, ◌∙◌, subst, inl, inr, ⊎_elim, arith, length-set, None}
 use Rattle.std.proofs.lemmas.List.{get_or-set_same, get_or-set_other}
 use Rattle.std.proofs.lemmas.Bool.{lt-ltb, le-ltb, eq-eqb, ne_eqb, cond-true, cond-false, cases_eq}
 use Rattle.deck.specs.Tape.{mark, Reel, TapeSet}
@@ -124,7 +124,7 @@ module _ (tape : TapeSet) (z : Result Machine Fault) (many : ℕ) (d : Body) (l 
   turned true g c t b ss reel block e r some left o =
       let under : reel < many = omega (arith, left, some) in
       let m = at expects.BehindTrailer g c t b in
-      let n = at (expects.End onwards.Header) g c t b in
+      let n = at (expects.End (Some onwards.Header)) g c t b in
       let p = before-blocks (closing-before reel many under) o in
       let stepped : step m (place_of reel block) (Some mark) ≡ Ok n = cond-true (ltb reel many) (goes_on l.form m) _ (lt-ltb reel many under) ∙ ap (λ k. goes_on k m) e in
       let q = onward tape z m n reel block mark [] (bound d many (reel + 1) ss) p stepped in
@@ -133,7 +133,7 @@ module _ (tape : TapeSet) (z : Result Machine Fault) (many : ℕ) (d : Body) (l 
         heads = λ g c t b p xs. refl;
         reel = reel + 1;
         block = 3;
-        on = next_stretch tape z many d l whole onwards.Header g c t b reel (block + 1) ss r some q;
+        on = next_stretch tape z many d l whole (Some onwards.Header) g c t b reel (block + 1) ss r some q;
         on_reel = omega arith;
         reels_left = omega (arith, left, long, some);
       }
@@ -149,23 +149,23 @@ module _ (tape : TapeSet) (z : Result Machine Fault) (many : ℕ) (d : Body) (l 
 
   -- The end of the set.
   abbrev ended : Group → ℕ → List Group → Bands → Machine
-  ended g c t b = at (expects.Directory onwards.Nothing) g c t b
+  ended g c t b = at (expects.Directory None) g c t b
 
   closes-set : (g : Group) (c : ℕ) (t : List Group) (b : Bands) (reel block : ℕ) → 1 ≤ reel → reel ≡ many → On tape z (at expects.BehindTrailer g c t b) reel block (closing reel many) [] → z ≡ Ok (ended g c t b)
   closes-set g c t b reel block r last o =
       let m = at expects.BehindTrailer g c t b in
-      let end = at (expects.End onwards.Nothing) g c t b in
+      let end = at (expects.End None) g c t b in
       let not_under : ltb reel many ≡ false = le-ltb reel many (omega arith) in
       ⊎_elim
       (λ (one : many ≡ 1).
       let p : On tape z m reel block (mark ∷ []) [] = before-blocks (ap (λ k. closing k many) (last ∙ one) ∙ ap (closing 1) one) o in
-      let stepped : step m (place_of reel block) (Some mark) ≡ Ok end = cond-false (ltb reel many) _ _ not_under ∙ ap (λ k. Ok (at k g c t b)) (cond-true (eqb many 1) (expects.End onwards.Nothing) expects.LastMark (eq-eqb many 1 one)) in
+      let stepped : step m (place_of reel block) (Some mark) ≡ Ok end = cond-false (ltb reel many) _ _ not_under ∙ ap (λ k. Ok (at k g c t b)) (cond-true (eqb many 1) (expects.End None) expects.LastMark (eq-eqb many 1 one)) in
       let q = onward tape z m end reel block mark [] [] p stepped in
       last_reel tape z end (ended g c t b) reel (block + 1) q refl)
       (λ (more : many ≡ 1 → ⊥).
       let p : On tape z m reel block (mark ∷ mark ∷ []) [] = before-blocks (ap (λ k. closing k many) last ∙ closing_last many (above many more (omega (arith, r, last)))) o in
       let third = at expects.LastMark g c t b in
-      let stepped : step m (place_of reel block) (Some mark) ≡ Ok third = cond-false (ltb reel many) _ _ not_under ∙ ap (λ k. Ok (at k g c t b)) (cond-false (eqb many 1) (expects.End onwards.Nothing) expects.LastMark (ne_eqb many 1 more)) in
+      let stepped : step m (place_of reel block) (Some mark) ≡ Ok third = cond-false (ltb reel many) _ _ not_under ∙ ap (λ k. Ok (at k g c t b)) (cond-false (eqb many 1) (expects.End None) expects.LastMark (ne_eqb many 1 more)) in
       let q = onward tape z m third reel block mark (mark ∷ []) [] p stepped in
       let s = onward tape z third end reel (block + 1) mark [] [] q refl in
       last_reel tape z end (ended g c t b) reel (block + 1 + 1) s refl)

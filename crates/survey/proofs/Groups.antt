@@ -1,8 +1,8 @@
 -- The machine over the files of a group.
 use Rattle.std.proofs.Common.{◌≡◌, ℕ, zero, suc, ◌+◌, ◌-◌, ◌*◌, ◌%◌, ◌<◌, ◌≤◌, Bool, true, false, cond, ◌&&◌, ◌||◌, eqb, ltb, leb, ◌⊎◌, List, [], ◌∷◌, ◌++◌, length, get_or, set, replicate, Some, Ok, Err, Result, sym, refl, ap, ◌∙◌, subst, ⊎_elim, append_assoc, arith}
-use Rattle.std.proofs.lemmas.Bool.{lt-ltb, le-ltb, le-leb, lt-leb, eq-eqb, ltb-true, leb-true, eqb-true, and_parts, or_cases, cond-true, cond-false}
+use Rattle.std.proofs.lemmas.Bool.{lt-ltb, le-ltb, le-leb, lt-leb, eq-eqb, ltb-true, leb-true, eqb-true, and_parts, or_cases, cond-true, cond-false, or_right}
 use Rattle.deck.specs.Tape.{written, mark, Reel, TapeSet, nth, look}
-use Rattle.records.specs.Headers.{band_in, trailers_fit, header}
+use Rattle.records.specs.Headers.{counts_fit, band_fits, band_in, trailers_fit, bands_fit, content_of, header}
 use Rattle.records.specs.Layouts.{record_length, ancillaries, annotations, attributes, stride}
 use Rattle.machine.specs.Machines.{step, passed, expecting, fresh, begun, band_of, on_header, on_first_trailer, trailing, trailed, lines_agree, no_group, most_blocks}
 use Rattle.records.specs.Bands.{more_bands}
@@ -21,7 +21,6 @@ use Rattle.machine.specs.declared.machine.Expect.TheVariants as expects
 use Rattle.machine.specs.declared.machine.Group.{Group}
 use Rattle.machine.specs.declared.machine.Machine.{Machine}
 use Rattle.machine.specs.declared.machine.Place.{Place}
-use Rattle.records.proofs.Headers.{header-passes}
 use Rattle.survey.specs.Recordings.{Body, Line, Files, record_of, numbered, before, attributes_file, image_file, trailer_file, closing, bound}
 use Rattle.survey.specs.Validity.{body_length, Whole, content, header_record, all_lines, width, bands_wide, ValidFiles}
 use Rattle.survey.proofs.Passing.{passes}
@@ -30,6 +29,11 @@ use Rattle.survey.proofs.Stretches.{hd, tl, hd_before, tl_before, length_before}
 use Rattle.survey.proofs.Steps.{six, machine, attribute_next, attributes_run, trailer_next, trailers_run}
 use Rattle.survey.specs.Placed.{Lain, Stood}
 use Rattle.survey.proofs.Images.{full_run, first_opens}
+
+-- A header whose values all pass.
+header_is : (xs : List ℕ) (l : Layout) (last : ℕ) → counts_fit xs l ≡ true → band_fits (byte xs 136) l last ≡ true → trailers_fit xs ≡ true → bands_fit (byte xs 3586) l ≡ true → header xs l last ≡ Ok record { content = content_of (byte xs 136) (byte xs 3586) l.form; trailers = byte xs 145 }
+unfolding header
+header_is xs l last counts band trailers bands = cond-true _ _ _ counts ∙ cond-true _ _ _ band ∙ cond-true _ _ _ trailers ∙ cond-true _ _ _ bands
 
 -- Counts.
 few_lines : (b : Bool) (lines : ℕ) → lines ≤ 8192 → lines * cond b 5 4 ≤ 8192 * cond b 5 4
@@ -41,10 +45,6 @@ fits_most Interleaved mission lines h = few_lines (eqb mission 3) lines h
 fits_most Sequential mission lines h = omega arith
 fits_most Vidicon mission lines h = omega arith
 
-or_either : (a b : Bool) → b ≡ true → (a || b) ≡ true
-or_either true b e = refl
-or_either false b e = e
-
 whole_lines : (b : Bool) (lines : ℕ) → (lines * cond b 5 4) % cond b 5 4 ≡ 0
 whole_lines true lines = omega arith
 whole_lines false lines = omega arith
@@ -54,7 +54,7 @@ agree Interleaved mission lines groups first blocks e h = ap (λ k. eqb k 0) (ap
 agree Sequential mission lines groups first blocks e h =
     ⊎_elim
     (λ (z : groups ≡ 0). ap (λ k. k || eqb blocks first) (eq-eqb groups 0 z))
-    (λ (s : first ≡ lines * 1). or_either (eqb groups 0) (eqb blocks first) (eq-eqb blocks first (omega (arith, e, s))))
+    (λ (s : first ≡ lines * 1). or_right (eqb groups 0) (eqb blocks first) (eq-eqb blocks first (omega (arith, e, s))))
     h
 agree Vidicon mission lines groups first blocks e h = refl
 
@@ -129,7 +129,7 @@ module _ (tape : TapeSet) (z : Result Machine Fault) (many : ℕ) (d : Body) (l 
   header_steps : (f : Files) (last : ℕ) → ValidFiles l lines last f → (e : Expect) → Heads e → (g : Group) (c : ℕ) (t : List Group) (b : Bands) (p : Place) → band_of g.content ≡ last → step (at e g c t b) p (Some (written (header_record f))) ≡ Ok (at (expects.Attribute 2) (fresh (heading f) p) c t (more_bands (content l f) b))
   header_steps f last v e heads g c t b p same =
       let xs = header_record f in
-      let says : header xs l (band_of g.content) ≡ Ok (heading f) = ap (header xs l) same ∙ sym (header-passes xs l last (byte xs 136) (byte xs 3586) refl refl (content l f) (byte xs 145) refl refl (sym v.header_counts) (sym v.header_band) (sym v.header_trailers) (sym v.header_bands)) in
+      let says : header xs l (band_of g.content) ≡ Ok (heading f) = ap (header xs l) same ∙ header_is xs l last v.header_counts v.header_band v.header_trailers v.header_bands in
       heads g c t b p xs
       ∙ ap (λ q. passed q (begun (at e g c t b) p (header xs l (band_of g.content)))) (passes 1 18 f.header (record_length l.form) v.header_whole (six l.form))
       ∙ ap (begun (at e g c t b) p) says

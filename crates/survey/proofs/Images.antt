@@ -195,10 +195,10 @@ module _ (set : TapeSet) (z : Result Machine Fault) (many : ℕ) (d : Body) (l :
       let fits = fit_front l g.content g.blocks (x ∷ xs) (all_lines (q ∷ qs)) a in
       let lies = part_lies (at e g) n (x ∷ xs) reel block (mark ∷ mark ∷ []) (bound d many (reel + 1) ss) p in
       let r = part_run e opens x xs g reel block (mark ∷ []) (bound d many (reel + 1) ss) fits (omega (arith, f, joint)) p in
-      let ended : step (at expects.BehindImage file) (place_of reel (block + length (x ∷ xs) + 1)) (Some mark) ≡ Ok (at (expects.End onwards.Image) file) = cond-true (ltb reel many) (Ok (at (expects.End onwards.Image) file)) (Err 37) (lt-ltb reel many under) in
-      let s = onward set z (at expects.BehindImage file) (at (expects.End onwards.Image) file) reel (block + length (x ∷ xs) + 1) mark [] (bound d many (reel + 1) ss) r ended in
+      let ended : step (at expects.BehindImage file) (place_of reel (block + length (x ∷ xs) + 1)) (Some mark) ≡ Ok (at (expects.End (Some onwards.Image)) file) = cond-true (ltb reel many) (Ok (at (expects.End (Some onwards.Image)) file)) (Err 37) (lt-ltb reel many under) in
+      let s = onward set z (at expects.BehindImage file) (at (expects.End (Some onwards.Image)) file) reel (block + length (x ∷ xs) + 1) mark [] (bound d many (reel + 1) ss) r ended in
       let some : 1 ≤ length ss = let k = length_image (n + length (x ∷ xs)) q qs behind more in omega (arith, k, more) in
-      let u = next_stretch set z many d l whole onwards.Image file c t b reel (block + length (x ∷ xs) + 1 + 1) ss h some s in
+      let u = next_stretch set z many d l whole (Some onwards.Image) file c t b reel (block + length (x ∷ xs) + 1 + 1) ss h some s in
       let number : n + length (x ∷ xs) ≡ file.blocks + 1 = omega (arith, long) in
       let v = subst (λ k. On set z (at expects.Resumed file) (reel + 1) 3 (hd (image_file k (q ∷ qs) behind) ++ closing (reel + 1) many) (bound d many (reel + 1 + 1) (tl (image_file k (q ∷ qs) behind)))) number u in
       let rest_fits = subst (λ k. AllFit l file.content k (all_lines (q ∷ qs))) (sym long) (subst (λ k. AllFit l k (g.blocks + length (x ∷ xs)) (all_lines (q ∷ qs))) (sym kept.content) (fit_back l g.content g.blocks (x ∷ xs) (all_lines (q ∷ qs)) a)) in

@@ -1,5 +1,6 @@
 -- Every accepted set was written from a valid recording.
 use Rattle.std.proofs.Common.{◌≡◌, ℕ, ◌+◌, ◌≤◌, Bool, true, false, cond, eqb, List, [], ◌∷◌, ◌++◌, length, drop, replicate, Some, None, Ok, Err, Option, Result, sym, refl, ap, ◌∙◌, subst, inl, inr, ⊎_elim, arith}
+use Rattle.std.proofs.lemmas.List.{nil_from_length}
 use Rattle.std.proofs.lemmas.Bool.{eqb-true}
 use Rattle.deck.specs.Tape.{written, mark, bad, Reel, TapeSet}
 use Rattle.records.specs.Bands.{no_bands}
@@ -30,17 +31,13 @@ use Rattle.survey.proofs.Steps.{machine}
 use Rattle.survey.proofs.Stretches.{hd, tl, bound_more}
 use Rattle.survey.proofs.Understanding.{Again, block_left}
 
-none_left : {X : Type 0} (xs : List X) → length xs ≡ 0 → xs ≡ []
-none_left [] e = refl
-none_left (x ∷ xs) e = absurd (omega (arith, e))
-
 module _ (z : Machine) (many : ℕ) (d : Body) (l : Layout) (whole : length d ≡ 354) where
   abbrev at : Expect → Group → ℕ → List Group → Bands → Machine
   at e g c t b = machine many (record_of 1 9 d) l e g c t b
 
   -- Where a reel has ended, the next tells what is left.
   abbrev Next : ℕ → TapeSet → Type 0
-  Next reel rs = (on : Onward) (g : Group) (c : ℕ) (t : List Group) (b : Bands) → length t ≡ 5 → reel + 1 ≤ many → rests.Known many d l (onward_expect on) g c t (reel + 1) → feed (at (expects.Directory on) g c t b) (reel + 1) rs ≡ Ok z → rests.NextRest many d l (λ k cs us. rests.Rest many d l (onward_expect on) g c t k cs us) reel rs
+  Next reel rs = (on : Option Onward) (g : Group) (c : ℕ) (t : List Group) (b : Bands) → length t ≡ 5 → reel + 1 ≤ many → rests.Known many d l (onward_expect on) g c t (reel + 1) → feed (at (expects.Directory on) g c t b) (reel + 1) rs ≡ Ok z → rests.NextRest many d l (λ k cs us. rests.Rest many d l (onward_expect on) g c t k cs us) reel rs
 
   ended : (reel : ℕ) (rs : TapeSet) → reel + length rs ≡ many → Next reel rs → Again z many d l reel [] rs
   ended reel rs left next (expects.Directory on) g c t b block five k q = absurd k
@@ -56,9 +53,9 @@ module _ (z : Machine) (many : ℕ) (d : Body) (l : Layout) (whole : length d �
   ended reel rs left next expects.TrailerMark g c t b block five k q = refused _ z q
   ended reel rs left next expects.BehindTrailer g c t b block five k q = refused _ z q
   ended reel rs left next expects.LastMark g c t b block five k q = refused _ z q
-  ended reel rs left next (expects.End onwards.Header) g c t b block five k q = (refl, next onwards.Header g c t b five k.0 (inl k.1) q)
-  ended reel rs left next (expects.End onwards.Image) g c t b block five k q = (refl, next onwards.Image g c t b five k.0 k.1 q)
-  ended reel rs left next (expects.End onwards.Nothing) g c t b block five k q = (refl, none_left rs (omega (arith, left, k)))
+  ended reel rs left next (expects.End (Some onwards.Header)) g c t b block five k q = (refl, next (Some onwards.Header) g c t b five k.0 (inl k.1) q)
+  ended reel rs left next (expects.End (Some onwards.Image)) g c t b block five k q = (refl, next (Some onwards.Image) g c t b five k.0 k.1 q)
+  ended reel rs left next (expects.End None) g c t b block five k q = (refl, nil_from_length rs (omega (arith, left, k)))
 
   -- The rest of a reel.
   pub along : (bs : Reel) (reel : ℕ) (rs : TapeSet) → 1 ≤ reel → reel + length rs ≡ many → Next reel rs → Again z many d l reel bs rs
@@ -66,18 +63,18 @@ module _ (z : Machine) (many : ℕ) (d : Body) (l : Layout) (whole : length d �
   along (b0 ∷ bs) reel rs r left next = λ e g c t b block five k q. block_left z many d l reel bs rs (along bs reel rs r left next) g c t b block five b0 e r left k q
 
   -- A later reel.
-  record Entered (on : Onward) (g : Group) (c : ℕ) (t : List Group) (b : Bands) (reel : ℕ) (bs : Reel) (rs : TapeSet) : Type 0 where
+  record Entered (on : Option Onward) (g : Group) (c : ℕ) (t : List Group) (b : Bands) (reel : ℕ) (bs : Reel) (rs : TapeSet) : Type 0 where
     rest : Reel
     is : bs ≡ written (directory_on d reel) ∷ mark ∷ rest
     on_it : go (at (onward_expect on) g c t b) reel 3 rest rs ≡ Ok z
 
-  marked : (on : Onward) (g : Group) (c : ℕ) (t : List Group) (b : Bands) (reel : ℕ) (xs : List ℕ) (bs : Reel) (rs : TapeSet) → xs ≡ directory_on d reel → go (at (expects.DirectoryMark on) g c t b) reel 2 bs rs ≡ Ok z → Entered on g c t b reel (written xs ∷ bs) rs
+  marked : (on : Option Onward) (g : Group) (c : ℕ) (t : List Group) (b : Bands) (reel : ℕ) (xs : List ℕ) (bs : Reel) (rs : TapeSet) → xs ≡ directory_on d reel → go (at (expects.DirectoryMark on) g c t b) reel 2 bs rs ≡ Ok z → Entered on g c t b reel (written xs ∷ bs) rs
   marked on g c t b reel xs [] rs e q = refused _ z q
   marked on g c t b reel xs (written ys ∷ bs) rs e q = refused _ z q
   marked on g c t b reel xs (mark ∷ bs) rs e q = record { rest = bs; is = ap (λ k. written k ∷ mark ∷ bs) e; on_it = q }
   marked on g c t b reel xs (bad ∷ bs) rs e q = refused _ z q
 
-  entered : (on : Onward) (g : Group) (c : ℕ) (t : List Group) (b : Bands) (reel : ℕ) (bs : Reel) (rs : TapeSet) → 2 ≤ reel → go (at (expects.Directory on) g c t b) reel 1 bs rs ≡ Ok z → Entered on g c t b reel bs rs
+  entered : (on : Option Onward) (g : Group) (c : ℕ) (t : List Group) (b : Bands) (reel : ℕ) (bs : Reel) (rs : TapeSet) → 2 ≤ reel → go (at (expects.Directory on) g c t b) reel 1 bs rs ≡ Ok z → Entered on g c t b reel bs rs
   entered on g c t b reel [] rs h q = refused _ z q
   entered on g c t b reel (mark ∷ bs) rs h q = refused _ z q
   entered on g c t b reel (bad ∷ bs) rs h q = refused _ z q
@@ -115,10 +112,10 @@ named_is xs many l e = by_option (layout_of xs) e
   where
     by_cond : (k : Layout) (b : Bool) → fixed xs k many ≡ b → cond b (Some k) None ≡ Some l → (Some k ≡ Some l) × (fixed xs l many ≡ true)
     by_cond k true f e = (e, let same : k ≡ l = cc in subst (λ y. fixed xs y many ≡ true) same f)
-    by_cond k false f e = let u : ◌≡◌ {A = ℕ} 0 1 = cc in absurd (omega arith)
+    by_cond k false f e = cc
 
     by_option : (o : Option Layout) → named xs many o ≡ Some l → (o ≡ Some l) × (fixed xs l many ≡ true)
-    by_option None e = let u : ◌≡◌ {A = ℕ} 0 1 = cc in absurd (omega arith)
+    by_option None e = cc
     by_option (Some k) e = by_cond k (fixed xs k many) refl e
 
 -- The first reel.
@@ -153,7 +150,7 @@ module _ (z : Machine) (many : ℕ) (rs : TapeSet) (nine : many ≤ 9) (left : 1
             ∙ ap (λ k. (written xs ∷ mark ∷ bs) ∷ k) (sym rem.rest);
       }
 
-  from_mark : (xs : List ℕ) (l : Layout) (bs : Reel) → length (drop 6 xs) ≡ 354 → xs ≡ record_of 1 9 (drop 6 xs) → first_directory xs many ≡ Some l → go (machine many xs l (expects.DirectoryMark onwards.Header) nothing_read 0 (replicate 5 nothing_read) no_bands) 1 2 bs rs ≡ Ok z → Recorded ((written xs ∷ bs) ∷ rs)
+  from_mark : (xs : List ℕ) (l : Layout) (bs : Reel) → length (drop 6 xs) ≡ 354 → xs ≡ record_of 1 9 (drop 6 xs) → first_directory xs many ≡ Some l → go (machine many xs l (expects.DirectoryMark (Some onwards.Header)) nothing_read 0 (replicate 5 nothing_read) no_bands) 1 2 bs rs ≡ Ok z → Recorded ((written xs ∷ bs) ∷ rs)
   from_mark xs l [] whole is says q = refused _ z q
   from_mark xs l (written ys ∷ bs) whole is says q = refused _ z q
   from_mark xs l (bad ∷ bs) whole is says q = refused _ z q
@@ -162,7 +159,7 @@ module _ (z : Machine) (many : ℕ) (rs : TapeSet) (nine : many ≤ 9) (left : 1
       let p : go (machine many (record_of 1 9 d) l expects.Header nothing_read 0 (replicate 5 nothing_read) no_bands) 1 3 bs rs ≡ Ok z = subst (λ y. go (machine many y l expects.Header nothing_read 0 (replicate 5 nothing_read) no_bands) 1 3 bs rs ≡ Ok z) is q in
       written_from xs l bs whole is says (along z many d l whole bs 1 rs (omega arith) left (next z many d l whole rs 1 (omega arith) left) expects.Header nothing_read 0 (replicate 5 nothing_read) no_bands 3 refl (inr refl) p)
 
-  from_layout : (xs : List ℕ) (bs : Reel) (o : Option Layout) → length (drop 6 xs) ≡ 354 → xs ≡ record_of 1 9 (drop 6 xs) → first_directory xs many ≡ o → after 1 1 bs rs (first (start many) onwards.Header xs o) ≡ Ok z → Recorded ((written xs ∷ bs) ∷ rs)
+  from_layout : (xs : List ℕ) (bs : Reel) (o : Option Layout) → length (drop 6 xs) ≡ 354 → xs ≡ record_of 1 9 (drop 6 xs) → first_directory xs many ≡ o → after 1 1 bs rs (first (start many) (Some onwards.Header) xs o) ≡ Ok z → Recorded ((written xs ∷ bs) ∷ rs)
   from_layout xs bs None whole is says q = refused _ z q
   from_layout xs bs (Some l) whole is says q = from_mark xs l bs whole is says q
 
@@ -171,7 +168,7 @@ module _ (z : Machine) (many : ℕ) (rs : TapeSet) (nine : many ≤ 9) (left : 1
   from_reel (mark ∷ bs) q = refused _ z q
   from_reel (bad ∷ bs) q = refused _ z q
   from_reel (written xs ∷ bs) q =
-      let p = was_passed 1 1 bs rs z (checked xs 360 9 1) (first (start many) onwards.Header xs (first_directory xs many)) q in
+      let p = was_passed 1 1 bs rs z (checked xs 360 9 1) (first (start many) (Some onwards.Header) xs (first_directory xs many)) q in
       let s = spells xs 360 9 1 (omega arith) p.0 in
       from_layout xs bs (first_directory xs many) s.long s.is refl p.1
 
@@ -183,7 +180,7 @@ record Ended (o : Result Machine Fault) (a : Accepted) : Type 0 where
 
 ended_with : (o : Result Machine Fault) (a : Accepted) → then o (λ m. Ok (accepted m)) ≡ Ok a → Ended o a
 ended_with (Ok m) a e = record { final = m; is = refl; says = cc }
-ended_with (Err f) a e = let u : ◌≡◌ {A = ℕ} 0 1 = cc in absurd (omega arith)
+ended_with (Err f) a e = cc
 
 pub recorded : (set : TapeSet) (a : Accepted) → 1 ≤ length set → length set ≤ 9 → surveyed set ≡ Ok a → Recorded set
 recorded [] a some nine e = absurd (omega arith)

@@ -1,5 +1,5 @@
 -- The directories of later reels, and the way from one reel to the next.
-use Rattle.std.proofs.Common.{◌≡◌, ℕ, ◌+◌, ◌<◌, ◌≤◌, true, cond, eqb, List, [], ◌∷◌, ◌++◌, length, get_or, take, drop, set, Some, None, Ok, Result, sym, refl, ap, ◌∙◌, subst, arith, length-set}
+use Rattle.std.proofs.Common.{◌≡◌, ℕ, ◌+◌, ◌<◌, ◌≤◌, true, cond, eqb, List, [], ◌∷◌, ◌++◌, length, get_or, take, drop, set, Some, None, Ok, Result, sym, refl, ap, ◌∙◌, subst, arith, length-set, Option}
 use lib.Seq.{split_at, set_split}
 use Rattle.std.specs.Str.{bytes_eq}
 use Rattle.std.proofs.lemmas.Slice.Eq.{bytes_eq-Decides}
@@ -69,7 +69,7 @@ module _ (set : TapeSet) (z : Result Machine Fault) (many : ℕ) (d : Body) (l :
   abbrev at : Expect → Group → ℕ → List Group → Bands → Machine
   at e g c t b = machine many (record_of 1 9 d) l e g c t b
 
-  later_steps : (on : Onward) (g : Group) (c : ℕ) (t : List Group) (b : Bands) (reel : ℕ) → 1 < reel → step (at (expects.Directory on) g c t b) (place_of reel 1) (Some (written (directory_on d reel))) ≡ Ok (at (expects.DirectoryMark on) g c t b)
+  later_steps : (on : Option Onward) (g : Group) (c : ℕ) (t : List Group) (b : Bands) (reel : ℕ) → 1 < reel → step (at (expects.Directory on) g c t b) (place_of reel 1) (Some (written (directory_on d reel))) ≡ Ok (at (expects.DirectoryMark on) g c t b)
   later_steps on g c t b reel h =
       let m = at (expects.Directory on) g c t b in
       let xs = directory_on d reel in
@@ -80,7 +80,7 @@ module _ (set : TapeSet) (z : Result Machine Fault) (many : ℕ) (d : Body) (l :
       ∙ cond-true _ _ _ (later_same d reel whole)
       ∙ cond-true _ _ _ (eq-eqb (byte xs 19) (48 + reel) (get_or-set_same d 12 (48 + reel) 0 (omega (arith, whole))))
 
-  pub next_stretch : (on : Onward) (g : Group) (c : ℕ) (t : List Group) (b : Bands) (reel block : ℕ) (ss : List Reel) → 1 ≤ reel → 1 ≤ length ss → On set z (at (expects.End on) g c t b) reel block [] (bound d many (reel + 1) ss) → On set z (at (onward_expect on) g c t b) (reel + 1) 3 (hd ss ++ closing (reel + 1) many) (bound d many (reel + 1 + 1) (tl ss))
+  pub next_stretch : (on : Option Onward) (g : Group) (c : ℕ) (t : List Group) (b : Bands) (reel block : ℕ) (ss : List Reel) → 1 ≤ reel → 1 ≤ length ss → On set z (at (expects.End on) g c t b) reel block [] (bound d many (reel + 1) ss) → On set z (at (onward_expect on) g c t b) (reel + 1) 3 (hd ss ++ closing (reel + 1) many) (bound d many (reel + 1 + 1) (tl ss))
   next_stretch on g c t b reel block ss h f o =
       let body = hd ss ++ closing (reel + 1) many in
       let p = subst (λ r. On set z (at (expects.End on) g c t b) reel block [] r) (bound_more d many (reel + 1) ss f) o in

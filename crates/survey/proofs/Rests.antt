@@ -1,5 +1,5 @@
 -- What is still to come, as a writer would have written it, wherever the machine stands.
-use Rattle.std.proofs.Common.{◌≡◌, ℕ, ◌+◌, ◌-◌, ◌*◌, ◌≤◌, Bool, false, ◌⊎◌, List, [], ◌∷◌, ◌++◌, length, get_or, sym, refl, ap, ◌∙◌, subst, arith}
+use Rattle.std.proofs.Common.{◌≡◌, ℕ, ◌+◌, ◌-◌, ◌*◌, ◌≤◌, Bool, false, ◌⊎◌, List, [], ◌∷◌, ◌++◌, length, get_or, sym, refl, ap, ◌∙◌, subst, arith, Some, None, Option}
 use Rattle.deck.specs.Tape.{Block, written, mark, Reel, TapeSet}
 use Rattle.records.specs.Layouts.{ancillaries, attributes, stride}
 use Rattle.machine.specs.Machines.{band_of, no_group, most_blocks}
@@ -175,10 +175,10 @@ module _ (many : ℕ) (d : Body) (l : Layout) where
     pub is : rs ≡ (written (directory_on d (reel + 1)) ∷ mark ∷ blocks) ∷ reels
     pub rest : P (reel + 1) blocks reels
 
-  abbrev pub EndRest : Onward → Group → ℕ → List Group → ℕ → TapeSet → Type 0
-  EndRest onwards.Header g c t reel rs = NextRest (GroupsRest (band_of g.content) c (first-blocks t)) reel rs
-  EndRest onwards.Image g c t reel rs = NextRest (ResumedRest g c t) reel rs
-  EndRest onwards.Nothing g c t reel rs = rs ≡ []
+  abbrev pub EndRest : Option Onward → Group → ℕ → List Group → ℕ → TapeSet → Type 0
+  EndRest (Some onwards.Header) g c t reel rs = NextRest (GroupsRest (band_of g.content) c (first-blocks t)) reel rs
+  EndRest (Some onwards.Image) g c t reel rs = NextRest (ResumedRest g c t) reel rs
+  EndRest None g c t reel rs = rs ≡ []
 
   -- What is left where the machine expects something.
   abbrev pub Rest : Expect → Group → ℕ → List Group → ℕ → Reel → TapeSet → Type 0
@@ -235,6 +235,6 @@ module _ (many : ℕ) (d : Body) (l : Layout) where
   Known expects.TrailerMark g c t reel = Agreed g c t
   Known expects.BehindTrailer g c t reel = Counted g × ((1 ≤ c) × (first-blocks t ≡ g.blocks))
   Known expects.LastMark g c t reel = many ≤ reel
-  Known (expects.End onwards.Nothing) g c t reel = many ≤ reel
-  Known (expects.End onwards.Header) g c t reel = (reel + 1 ≤ many) × (l.form ≡ Sequential)
-  Known (expects.End onwards.Image) g c t reel = (reel + 1 ≤ many) × Within g c
+  Known (expects.End None) g c t reel = many ≤ reel
+  Known (expects.End (Some onwards.Header)) g c t reel = (reel + 1 ≤ many) × (l.form ≡ Sequential)
+  Known (expects.End (Some onwards.Image)) g c t reel = (reel + 1 ≤ many) × Within g c

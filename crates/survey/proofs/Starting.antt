@@ -1,8 +1,8 @@
 -- The survey of a valid recording.
-use Rattle.std.proofs.Common.{◌≡◌, ℕ, ◌*◌, ◌/◌, ◌≤◌, Bool, true, false, cond, eqb, List, [], ◌∷◌, ◌++◌, length, get_or, replicate, Some, Ok, Result, sym, refl, ap, ◌∙◌, subst, inl, inr, arith}
-use Rattle.std.proofs.lemmas.Bool.{eqb-true, and_parts}
+use Rattle.std.proofs.Common.{◌≡◌, ℕ, ◌*◌, ◌/◌, ◌≤◌, Bool, true, false, cond, eqb, List, [], ◌∷◌, ◌++◌, length, get_or, replicate, Some, None, Ok, Result, refl, ap, ◌∙◌, subst, inl, inr, arith}
+use Rattle.std.proofs.lemmas.Bool.{eqb-true, and_parts, cond-true}
 use Rattle.deck.specs.Tape.{written, mark, Reel, TapeSet}
-use Rattle.records.specs.Directories.{layout_of, fixed, first_directory}
+use Rattle.records.specs.Directories.{layout_of, fixed, named, first_directory}
 use Rattle.machine.specs.Machines.{passed, first, on_directory}
 use Rattle.records.specs.Bands.{no_bands}
 use Rattle.records.specs.Records.{byte, checked}
@@ -14,7 +14,6 @@ use Rattle.records.specs.declared.layout.Layout.{Layout}
 use Rattle.machine.specs.declared.machine.Expect.TheVariants as expects
 use Rattle.machine.specs.declared.machine.Machine.{Machine}
 use Rattle.machine.specs.declared.machine.Onward.TheVariants as onwards
-use Rattle.records.proofs.Directories.{names}
 use Rattle.survey.specs.Recordings.{Body, Recording, record_of, directory_on, stretches, reels, closing, bound, written_as}
 use Rattle.survey.specs.Validity.{width, Valid}
 use Rattle.survey.proofs.Passing.{passes}
@@ -33,22 +32,27 @@ digit-one d l many e =
     let r = and_parts (eqb (byte xs 19) 49) _ q.1 in
     eqb-true (byte xs 19) 49 r.0
 
+-- A first directory that names its layout, and whose other values are in order.
+first_is : (xs : List ℕ) (many : ℕ) (l : Layout) → layout_of xs ≡ Some l → fixed xs l many ≡ true → first_directory xs many ≡ Some l
+unfolding first_directory
+first_is xs many l says values = ap (named xs many) says ∙ cond-true (fixed xs l many) (Some l) None values
+
 -- The first reel up to its first header.
 module _ (d : Body) (l : Layout) (many : ℕ) (whole : length d ≡ 354) (says : layout_of (record_of 1 9 d) ≡ Some l) (values : fixed (record_of 1 9 d) l many ≡ true) where
   abbrev pub heading : Machine
   heading = machine many (record_of 1 9 d) l expects.Header nothing_read 0 (replicate 5 nothing_read) no_bands
 
-  first_steps : (m : Machine) → m.reels ≡ many → m.expect ≡ expects.Directory onwards.Header → (xs : List ℕ) → xs ≡ record_of 1 9 d → on_directory m (place_of 1 1) onwards.Header xs ≡ first m onwards.Header xs (Some l)
+  first_steps : (m : Machine) → m.reels ≡ many → m.expect ≡ expects.Directory (Some onwards.Header) → (xs : List ℕ) → xs ≡ record_of 1 9 d → on_directory m (place_of 1 1) (Some onwards.Header) xs ≡ first m (Some onwards.Header) xs (Some l)
   first_steps m e f xs is =
-      let named : first_directory xs m.reels ≡ Some l = ap (first_directory xs) e ∙ ap (λ k. first_directory k many) is ∙ sym (names (record_of 1 9 d) many l (sym says) (sym values)) in
-      ap (λ q. passed q (first m onwards.Header xs (first_directory xs m.reels))) (ap (λ k. checked k 360 9 1) is ∙ passes 1 9 d 360 whole (omega arith))
-      ∙ ap (first m onwards.Header xs) named
+      let named : first_directory xs m.reels ≡ Some l = ap (first_directory xs) e ∙ ap (λ k. first_directory k many) is ∙ first_is (record_of 1 9 d) many l says values in
+      ap (λ q. passed q (first m (Some onwards.Header) xs (first_directory xs m.reels))) (ap (λ k. checked k 360 9 1) is ∙ passes 1 9 d 360 whole (omega arith))
+      ∙ ap (first m (Some onwards.Header) xs) named
 
   pub at_header : (tape : TapeSet) (z : Result Machine Fault) (bs : Reel) (rs : TapeSet) → On tape z (start many) 1 1 (written (directory_on d 1) ∷ mark ∷ bs) rs → On tape z heading 1 3 bs rs
   at_header tape z bs rs o =
       let is = first_reel d (digit-one d l many values) in
       let p = subst (λ k. On tape z (start many) 1 1 (written k ∷ mark ∷ bs) rs) is o in
-      let m = machine many (record_of 1 9 d) l (expects.DirectoryMark onwards.Header) nothing_read 0 (replicate 5 nothing_read) no_bands in
+      let m = machine many (record_of 1 9 d) l (expects.DirectoryMark (Some onwards.Header)) nothing_read 0 (replicate 5 nothing_read) no_bands in
       let q = onward tape z (start many) m 1 1 (written (record_of 1 9 d)) (mark ∷ bs) rs p (first_steps (start many) refl refl (record_of 1 9 d) refl) in
       onward tape z m heading 1 2 mark bs rs q refl
 

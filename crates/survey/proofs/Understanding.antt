@@ -179,13 +179,13 @@ module _ (z : Machine) (many : ℕ) (d : Body) (l : Layout) (reel : ℕ) (bs : R
     goes_left : (f : Form) → l.form ≡ f → reel < many → 1 ≤ c → rests.first-blocks many d l t ≡ g.blocks → after reel block bs rs (goes_on f (at expects.BehindTrailer g c t b)) ≡ Ok z → rests.BehindRest many d l g reel (mark ∷ bs) rs
     goes_left Interleaved e u k h q = refused _ z q
     goes_left Sequential e u k h q =
-        let r = again (expects.End onwards.Header) g c t b (block + 1) five (omega arith, e) q in
+        let r = again (expects.End (Some onwards.Header)) g c t b (block + 1) five (omega arith, e) q in
         behind_end many d l g c t reel bs rs k h e r.0 r.1
     goes_left Vidicon e u k h q = refused _ z q
 
-    ends_left : (one : Bool) → eqb many 1 ≡ one → reel ≡ many → 1 ≤ reel → rests.Counted many d l g → go (at (cond one (expects.End onwards.Nothing) expects.LastMark) g c t b) reel (block + 1) bs rs ≡ Ok z → rests.BehindRest many d l g reel (mark ∷ bs) rs
+    ends_left : (one : Bool) → eqb many 1 ≡ one → reel ≡ many → 1 ≤ reel → rests.Counted many d l g → go (at (cond one (expects.End None) expects.LastMark) g c t b) reel (block + 1) bs rs ≡ Ok z → rests.BehindRest many d l g reel (mark ∷ bs) rs
     ends_left true e u r k q =
-        let w = again (expects.End onwards.Nothing) g c t b (block + 1) five (omega (arith, u)) q in
+        let w = again (expects.End None) g c t b (block + 1) five (omega (arith, u)) q in
         let one = eqb-true many 1 e in
         over many d l g reel (mark ∷ bs) rs k (ap (λ y. mark ∷ y) w.0 ∙ sym (ap (λ y. closing y many) (u ∙ one) ∙ ap (closing 1) one)) w.1 u
     ends_left false e u r k q =
@@ -208,8 +208,8 @@ module _ (z : Machine) (many : ℕ) (d : Body) (l : Layout) (reel : ℕ) (bs : R
     behind_mark_left r left k q =
         ⊎_elim
         (λ (p : (ltb reel many ≡ true) × (after reel block bs rs (goes_on l.form (at expects.BehindTrailer g c t b)) ≡ Ok z)). goes_left l.form refl (ltb-true reel many p.0) k.1.0 k.1.1 p.1)
-        (λ (p : (ltb reel many ≡ false) × (after reel block bs rs (Ok (at (cond (eqb many 1) (expects.End onwards.Nothing) expects.LastMark) g c t b)) ≡ Ok z)). let u = ltb-false reel many p.0 in ends_left (eqb many 1) refl (omega (arith, u, left)) r k.0 p.1)
-        (was_either reel block bs rs z (ltb reel many) (goes_on l.form (at expects.BehindTrailer g c t b)) (Ok (at (cond (eqb many 1) (expects.End onwards.Nothing) expects.LastMark) g c t b)) q)
+        (λ (p : (ltb reel many ≡ false) × (after reel block bs rs (Ok (at (cond (eqb many 1) (expects.End None) expects.LastMark) g c t b)) ≡ Ok z)). let u = ltb-false reel many p.0 in ends_left (eqb many 1) refl (omega (arith, u, left)) r k.0 p.1)
+        (was_either reel block bs rs z (ltb reel many) (goes_on l.form (at expects.BehindTrailer g c t b)) (Ok (at (cond (eqb many 1) (expects.End None) expects.LastMark) g c t b)) q)
 
     -- A block that was taken, whatever was expected.
     pub block_left : (b0 : Block) (e : Expect) → 1 ≤ reel → reel + length rs ≡ many → rests.Known many d l e g c t reel → go (at e g c t b) reel block (b0 ∷ bs) rs ≡ Ok z → rests.Rest many d l e g c t reel (b0 ∷ bs) rs
@@ -232,9 +232,9 @@ module _ (z : Machine) (many : ℕ) (d : Body) (l : Layout) (reel : ℕ) (bs : R
     block_left bad expects.Image r left k q = let p = on_bad_left expects.Image k.0 k.1.0 q in image_more many d l g c t reel bs rs bad p.line_is p.is p.fit p.rest
     block_left (written xs) expects.BehindImage r left k q = let p = first_trailer_left expects.BehindImage xs k q in after_trailer many d l g c t reel (written xs ∷ bs) rs (place_of reel block) p.same p.rest
     block_left mark expects.BehindImage r left k q =
-        let p = was_true reel block bs rs z (ltb reel many) (Ok (at (expects.End onwards.Image) g c t b)) 37 q in
+        let p = was_true reel block bs rs z (ltb reel many) (Ok (at (expects.End (Some onwards.Image)) g c t b)) 37 q in
         let u = ltb-true reel many p.0 in
-        let w = again (expects.End onwards.Image) g c t b (block + 1) five (omega (arith, u), k) p.1 in
+        let w = again (expects.End (Some onwards.Image)) g c t b (block + 1) five (omega (arith, u), k) p.1 in
         after_break many d l g c t reel bs rs bs w.0 w.1
     block_left bad expects.BehindImage r left k q = refused _ z q
     block_left (written xs) expects.Resumed r left k q = resumed_left xs k q
@@ -250,7 +250,7 @@ module _ (z : Machine) (many : ℕ) (d : Body) (l : Layout) (reel : ℕ) (bs : R
     block_left mark expects.BehindTrailer r left k q = behind_mark_left r left k q
     block_left bad expects.BehindTrailer r left k q = refused _ z q
     block_left (written xs) expects.LastMark r left k q = refused _ z q
-    block_left mark expects.LastMark r left k q = let w = again (expects.End onwards.Nothing) g c t b (block + 1) five k q in (ap (λ y. mark ∷ y) w.0, w.1)
+    block_left mark expects.LastMark r left k q = let w = again (expects.End None) g c t b (block + 1) five k q in (ap (λ y. mark ∷ y) w.0, w.1)
     block_left bad expects.LastMark r left k q = refused _ z q
     block_left (written xs) (expects.End on) r left k q = refused _ z q
     block_left mark (expects.End on) r left k q = refused _ z q

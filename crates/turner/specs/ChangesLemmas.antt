@@ -13,17 +13,6 @@ use Rattle.turner.specs.declared.shape.Order.{Order}
 use Rattle.turner.specs.declared.shape.Order.TheVariants.{ByLine, ByBand}
 use Rattle.turner.specs.declared.shape.Turning.{Turning}
 
--- No bit is above 16.
-pub weight_small : (place : ℕ) → weight place ≤ 16
-weight_small place = grind (arith, nat_tests)
-
--- One bit more.
-pub mask_more : (codes : List ℕ) (i : ℕ) → i < length codes → mask_of (drop i codes) ≡ weight (slice_index codes i - 4) + mask_of (drop (i + 1) codes)
-mask_more codes i h = at_drop_more mask_of codes i 0 h
-
-pub mask_all : (codes : List ℕ) (i : ℕ) → length codes ≤ i → mask_of (drop i codes) ≡ 0
-mask_all codes i h = at_drop_all mask_of codes i h
-
 -- A changed body is as long as it was.
 length_header : (o : Order) (a : Accepted) (i : ℕ) (body : Body) → length (header_changed o a i body) ≡ length body
 length_header ByLine a i body = simp length-set

@@ -1,5 +1,6 @@
 -- The set that a turner shows.
-use Rattle.std.specs.Prelude.{ℕ, ◌+◌, ◌-◌, ◌/◌, ◌%◌, ◌≤◌, Bool, true, false, cond, [], ◌∷◌, map, replicate, Some, None, Ok, Err, Option, Result, nat_le}
+use Rattle.std.specs.Prelude.{ℕ, ◌+◌, ◌-◌, ◌/◌, ◌%◌, Bool, true, false, cond, [], ◌∷◌, map, replicate, Some, None, Ok, Err, Option, Result, nat_le}
+use Rattle.std.proofs.Common.{lit≤}
 use Rattle.deck.specs.Tape.{Block, written, mark, bad, Reel, TapeSet}
 use Rattle.deck.specs.declared.Kind.{Kind}
 use Rattle.deck.specs.declared.Kind.TheVariants as kinds
@@ -17,7 +18,7 @@ use Rattle.reader.specs.declared.places.BandFile.{BandFile}
 use Rattle.reader.specs.declared.places.Spot.{Spot}
 use Rattle.turner.specs.Changes.{code_at, changed}
 use Rattle.turner.specs.Pieces.{pieces}
-use Rattle.turner.specs.Bounds.{first_group}
+use Rattle.turner.specs.Bounds.{first_group, form_six, form_few}
 use Rattle.turner.specs.Shapes.{layout_of, size, remembered}
 use Rattle.turner.specs.declared.delivery.Found.{Found}
 use Rattle.turner.specs.declared.delivery.Found.TheVariants.{Blank, Borne}
@@ -62,20 +63,25 @@ abbrev pub line_origin : Turning → Option BandFile → ℕ → Origin
 line_origin t None n = Zero
 line_origin t (Some f) n = origin_at (line_spot f (layout_of t) n)
 
+-- A record of the length of every record but a directory.
+abbrev pub sheet : Turning → ℕ → ℕ → Origin → Source
+sheet t kind n origin = record {
+  kind = kind;
+  number = n;
+  size = size t;
+  origin = origin;
+  six = form_six t.accepted.summary.layout.form;
+  few = form_few t.accepted.summary.layout.form;
+}
+
 -- The type, number and length of each record shown, and where its body comes from. A mark has none of these.
 abbrev pub source : Turning → Piece → Option Source
 source t Mark = None
-source t Directory = Some record { kind = 9; number = 1; size = 360; origin = Below (spot 1 1) }
-source t (Header i) = Some record { kind = 18; number = 1; size = size t; origin = Below (attribute_spot (first_group t.accepted) 1) }
-source t (Attribute n) = Some record { kind = attribute_type t n; number = n; size = size t; origin = Below (attribute_spot (first_group t.accepted) n) }
-source t (Image i k) =
-    Some record {
-      kind = 237;
-      number = k;
-      size = size t;
-      origin = line_origin t (band_file t.accepted (code_of t.order t.accepted i k)) (line_of t.order t.accepted k);
-    }
-source t (Trailer n) = Some record { kind = 246; number = n; size = size t; origin = Below (trailer_spot (first_group t.accepted) n) }
+source t Directory = Some record { kind = 9; number = 1; size = 360; origin = Below (spot 1 1); six = lit≤ tt; few = lit≤ tt }
+source t (Header i) = Some (sheet t 18 1 (Below (attribute_spot (first_group t.accepted) 1)))
+source t (Attribute n) = Some (sheet t (attribute_type t n) n (Below (attribute_spot (first_group t.accepted) n)))
+source t (Image i k) = Some (sheet t 237 k (line_origin t (band_file t.accepted (code_of t.order t.accepted i k)) (line_of t.order t.accepted k)))
+source t (Trailer n) = Some (sheet t 246 n (Below (trailer_spot (first_group t.accepted) n)))
 
 -- A body, or none where the place below bears no record of that length.
 abbrev pub readable : Delivery → Line
@@ -118,11 +124,6 @@ bears (Err n) = false
 
 abbrev pub borne_at : TapeSet → ℕ → Spot → Option Place
 borne_at set size s = cond (bears (body_at set (Some s) size)) (Some (place_of s.reel s.block)) None
-
--- A record has its six identification bytes, and no more bytes than a tape's longest.
-abbrev pub Sized : Option Source → Type 0
-Sized None = Unit {0}
-Sized (Some s) = (6 ≤ s.size) × (s.size ≤ 5388)
 
 -- The record of some length that an origin gives: one of zeros, or one at the place that bears it.
 abbrev pub borne : Option Place → Option Found

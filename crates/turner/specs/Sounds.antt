@@ -23,7 +23,7 @@ use Rattle.turner.specs.Changes.{changed}
 use Rattle.turner.specs.Pieces.{groups_from, pieces, piece_at, piece_on}
 use Rattle.turner.specs.Bounds.{first_group, small}
 use Rattle.turner.specs.Shapes.{groups, groups_in, images_in, sheets}
-use Rattle.turner.specs.Shown.{source, bears, readable, body_from, record_block, source_block, piece_block, shown_reel, shown, Sized, borne, found, found_kind, shown_kind}
+use Rattle.turner.specs.Shown.{source, bears, readable, body_from, record_block, source_block, piece_block, shown_reel, shown, borne, found, found_kind, shown_kind}
 use Rattle.turner.specs.declared.piece.Piece.{Piece}
 use Rattle.turner.specs.declared.piece.Piece.TheVariants.{Mark, Directory, Header, Attribute, Image, Trailer}
 use Rattle.turner.specs.declared.shape.Order.{Order}
@@ -85,9 +85,9 @@ module _ (f : Body → Body) (keeps : (body : Body) → length (f body) ≡ leng
   kind_origin set kind n size (Below s) six = kind_below kind n size (place_of s.reel s.block) (body_at set (Some s) size) six (whole_at set s size)
   kind_origin set kind n size Nowhere six = refl
 
-  pub kind_shown : (set : TapeSet) (source : Option Source) → Sized source → Some (shown_kind set source) ≡ kind_of (Some (source_block f set source))
-  kind_shown set None sized = refl
-  kind_shown set (Some s) sized = kind_origin set s.kind s.number s.size s.origin sized.0
+  pub kind_shown : (set : TapeSet) (source : Option Source) → Some (shown_kind set source) ≡ kind_of (Some (source_block f set source))
+  kind_shown set None = refl
+  kind_shown set (Some s) = kind_origin set s.kind s.number s.size s.origin s.six
 
   -- And the block is sound.
   sound_record : (kind n size : ℕ) (line : Line) → 6 ≤ size → size ≤ 5388 → ((body : Body) → line ≡ Some body → length body ≡ size - 6) → SoundBlock (record_block f kind n line)
@@ -106,27 +106,13 @@ module _ (f : Body → Body) (keeps : (body : Body) → length (f body) ≡ leng
   from_whole set size (Below s) body e = read_whole set s size body (body_at set (Some s) size) refl e
   from_whole set size Nowhere body e = let z : ◌≡◌ {A = ℕ} 0 1 = cc in absurd (omega arith)
 
-  pub sound_source : (set : TapeSet) (source : Option Source) → Sized source → SoundBlock (source_block f set source)
-  sound_source set None sized = tt
-  sound_source set (Some s) sized = sound_record s.kind s.number s.size (body_from set s.size s.origin) sized.0 sized.1 (from_whole set s.size s.origin)
-
--- The records that are shown have a record's length.
-sized_form : (f : Form) → (6 ≤ record_length f) × (record_length f ≤ 5388)
-sized_form Interleaved = (lit≤ tt, lit≤ tt)
-sized_form Sequential = (lit≤ tt, lit≤ tt)
-sized_form Vidicon = (lit≤ tt, lit≤ tt)
-
-sized_piece : (t : Turning) (p : Piece) → Sized (source t p)
-sized_piece t Mark = tt
-sized_piece t Directory = (lit≤ tt, lit≤ tt)
-sized_piece t (Header i) = sized_form t.accepted.summary.layout.form
-sized_piece t (Attribute n) = sized_form t.accepted.summary.layout.form
-sized_piece t (Image i k) = sized_form t.accepted.summary.layout.form
-sized_piece t (Trailer n) = sized_form t.accepted.summary.layout.form
+  pub sound_source : (set : TapeSet) (source : Option Source) → SoundBlock (source_block f set source)
+  sound_source set None = tt
+  sound_source set (Some s) = sound_record s.kind s.number s.size (body_from set s.size s.origin) s.six s.few (from_whole set s.size s.origin)
 
 sound_blocks : (t : Turning) (set : TapeSet) (ps : List Piece) → SoundBlocks (map (piece_block t set) ps)
 sound_blocks t set [] = tt
-sound_blocks t set (p ∷ ps) = (sound_source (changed t p) (length_changed t p) set (source t p) (sized_piece t p), sound_blocks t set ps)
+sound_blocks t set (p ∷ ps) = (sound_source (changed t p) (length_changed t p) set (source t p), sound_blocks t set ps)
 
 -- The reel that is shown fits.
 sheets_few : (l : Layout) → attributes l ≤ 33

@@ -4,7 +4,7 @@ ghost use Rattle.deck.specs.Answers.{fetched, filled};
 ghost use Rattle.deck.specs.Tape.{look};
 ghost use Rattle.deck.specs.Words.{word};
 ghost use Rattle.reader.specs.Bodies.{body_of};
-ghost use Rattle.turner.specs.Shown.{bears, readable, borne_at, found, record_block, source_block, piece_block, Sized, shown_kind, there};
+ghost use Rattle.turner.specs.Shown.{bears, readable, borne_at, found, record_block, source_block, piece_block, shown_kind, there};
 
 use super::piece::Piece;
 use super::shape::Turning;
@@ -51,7 +51,6 @@ fn find<D: Deck>(deck: &mut D, origin: Origin, size: usize) -> Option<Found>
 
 // What kind of block a source gives: one that the tape below does not bear is bad.
 pub(crate) fn kind_from<D: Deck>(deck: &mut D, source: Option<Source>) -> Kind<usize>
-    requires { Sized source }
     ensures stays { D.meaning deck.new ≡ D.meaning deck.old }
     ensures value { result ≡ shown_kind (D.meaning deck.old) source }
 {
@@ -85,7 +84,6 @@ fn blank(body: &mut [u8])
 
 // Puts a record whose body is zero at the front of the buffer.
 fn zero_record(source: Source, buffer: &mut [u8]) -> Result<Kind<usize>, Short>
-    requires { 6 ≤ source.size }
     ensures value { there result ≡ fetched (Some (record_block (λ body. body) source.kind source.number (Some (replicate (source.size - 6) 0)))) (length buffer.old) }
     ensures bytes { buffer.new ≡ filled (Some (record_block (λ body. body) source.kind source.number (Some (replicate (source.size - 6) 0)))) buffer.old }
 {
@@ -105,8 +103,7 @@ fn copied_record<D: Deck>(
     source: Source,
     buffer: &mut [u8],
 ) -> Result<Kind<usize>, Short>
-    requires long { 6 ≤ source.size }
-    requires there { bears (body_of source.size (look (D.meaning deck.old) at.reel at.block)) ≡ true }
+    requires { bears (body_of source.size (look (D.meaning deck.old) at.reel at.block)) ≡ true }
     ensures stays { D.meaning deck.new ≡ D.meaning deck.old }
     ensures value { there result ≡ fetched (Some (record_block (λ body. body) source.kind source.number (readable (body_of source.size (look (D.meaning deck.old) at.reel at.block))))) (length buffer.old) }
     ensures bytes { buffer.new ≡ filled (Some (record_block (λ body. body) source.kind source.number (readable (body_of source.size (look (D.meaning deck.old) at.reel at.block))))) buffer.old }
@@ -125,7 +122,6 @@ fn fetch_from<D: Deck>(
     source: Option<Source>,
     buffer: &mut [u8],
 ) -> Result<Kind<usize>, Short>
-    requires { Sized source }
     ensures stays { D.meaning deck.new ≡ D.meaning deck.old }
     ensures value { there result ≡ fetched (Some (source_block (λ body. body) (D.meaning deck.old) source)) (length buffer.old) }
     ensures bytes { buffer.new ≡ filled (Some (source_block (λ body. body) (D.meaning deck.old) source)) buffer.old }

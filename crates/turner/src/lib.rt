@@ -3,6 +3,7 @@
 
 mod change;
 mod delivery;
+mod origin;
 mod piece;
 mod shape;
 mod showing;

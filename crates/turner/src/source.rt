@@ -1,16 +1,9 @@
-// Where the body of a piece comes from.
-ghost use Rattle.std.specs.Prelude.{◌≡◌};
-ghost use Rattle.reader.specs.Finding.{band_file};
-ghost use Rattle.turner.specs.Changes.{code_at};
-ghost use Rattle.turner.specs.Shown.{code_of, line_of, line_origin, origin_at, record_spot, attribute_type, source, Sized};
+// A record that is shown, but for the bytes of its body.
+ghost use Rattle.std.specs.Prelude.{◌≤◌};
 
-use super::piece::Piece;
-use super::shape::{Order, Turning};
-use machine::Place;
-use reader::{Spot, band_file, codes, line_spot};
-use records::{ANCILLARY, ANNOTATION, DIRECTORY, DIRECTORY_LENGTH, HEADER, IMAGE, TRAILER};
+use reader::Spot;
 
-// Zeros, a record below, or nothing where a line has no place.
+// Where a body comes from: zeros, a record below, or nothing where a line has no place.
 #[derive(Clone, Copy)]
 pub enum Origin {
     Zero,
@@ -18,128 +11,14 @@ pub enum Origin {
     Nowhere,
 }
 
-// A record that is shown: its type, its number, its length, and where its body comes from.
+// A record that is shown: its type, its number, its length, and where its body comes from. It has its six identification bytes, and no more
+// bytes than a tape's longest.
 #[derive(Clone, Copy)]
 pub struct Source {
     pub kind: u8,
     pub number: u32,
     pub size: usize,
     pub origin: Origin,
-}
-
-// Where a record of a number stands, of those that follow one another from a place on.
-fn record_spot(first: Place, number: u32) -> Spot
-    ensures { result ≡ record_spot first number }
-{
-    Spot {
-        reel: first.reel,
-        block: first.block as u64 + number.saturating_sub(1) as u64,
-    }
-}
-
-// A record below, if it has a place.
-fn origin_at(spot: Option<Spot>) -> Origin
-    ensures { result ≡ origin_at spot }
-{
-    match spot {
-        Some(spot) => Origin::Below(spot),
-        None => Origin::Nowhere,
-    }
-}
-
-impl Turning {
-    // The code of the band at a place among those present.
-    pub(crate) fn code_at(&self, place: u32) -> u8
-        ensures { result ≡ code_at self.now.accepted place }
-    {
-        codes(&self.accepted.summary.bands)
-            .get(place as usize)
-            .copied()
-            .unwrap_or(0)
-    }
-
-    // The band of an image block of a group.
-    fn code_of(&self, group: u32, block: u32) -> u8
-        ensures { result ≡ code_of self.now.order self.now.accepted group block }
-    {
-        match self.order {
-            Order::ByLine => {
-                4 + (block.saturating_sub(1) % self.accepted.summary.layout.stride()) as u8
-            }
-            Order::ByBand => self.code_at(group),
-        }
-    }
-
-    // The line of an image block.
-    fn line_of(&self, block: u32) -> u32
-        ensures { result ≡ line_of self.now.order self.now.accepted block }
-    {
-        match self.order {
-            Order::ByLine => block.saturating_sub(1) / self.accepted.summary.layout.stride() + 1,
-            Order::ByBand => block,
-        }
-    }
-
-    // The type of an attribute record behind the header.
-    fn attribute_type(&self, number: u32) -> u8
-        ensures { result ≡ attribute_type self.now number }
-    {
-        if number <= 1 + self.accepted.summary.layout.ancillaries() {
-            ANCILLARY
-        } else {
-            ANNOTATION
-        }
-    }
-
-    // Where a line of a band comes from: a band that is not present has zeros.
-    fn line_origin(&self, band: u8, line: u32) -> Origin
-        ensures { result ≡ line_origin self.now (band_file self.now.accepted band) line }
-    {
-        match band_file(&self.accepted, band) {
-            Some(file) => origin_at(line_spot(&file, self.accepted.summary.layout, line)),
-            None => Origin::Zero,
-        }
-    }
-
-    // The record of a piece. A mark has none.
-    pub(crate) fn source_of(&self, piece: Piece) -> Option<Source>
-        ensures is { result ≡ source self.now piece }
-        ensures sized { Sized result }
-    {
-        let group = self.first_group();
-        let size = self.accepted.summary.layout.form.record_length();
-        match piece {
-            Piece::Mark => None,
-            Piece::Directory => Some(Source {
-                kind: DIRECTORY,
-                number: 1,
-                size: DIRECTORY_LENGTH,
-                origin: Origin::Below(Spot { reel: 1, block: 1 }),
-            }),
-            Piece::Header(_) => Some(Source {
-                kind: HEADER,
-                number: 1,
-                size,
-                origin: Origin::Below(record_spot(group.header, 1)),
-            }),
-            Piece::Attribute(number) => Some(Source {
-                kind: self.attribute_type(number),
-                number,
-                size,
-                origin: Origin::Below(record_spot(group.header, number)),
-            }),
-            Piece::Image(place, number) => Some(Source {
-                kind: IMAGE,
-                number,
-                size,
-                origin: self.line_origin(self.code_of(place, number), self.line_of(number)),
-            }),
-            Piece::Trailer(number) => Some(Source {
-                kind: TRAILER,
-                number,
-                size,
-                origin: Origin::Below(record_spot(group.trailer, number)),
-            }),
-        }
-    }
+    ghost six: { 6 ≤ size },
+    ghost few: { size ≤ 5388 },
 }

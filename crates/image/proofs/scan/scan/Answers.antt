@@ -1,49 +1,49 @@
-use Rattle.std.proofs.Common.{◌+◌, Ok, sym, ap, ◌∙◌, subst, arith}
+use Rattle.std.proofs.Common.{◌+◌, [], ◌∷◌, ◌++◌, Some, Ok, sym, ap, ◌∙◌, subst, arith}
 use Rattle.std.proofs.lemmas.Result.{err_from_is_err_and}
-use Rattle.image.specs.Chart.{with_reel}
+use Rattle.image.specs.Chart.{span}
 use Rattle.image.specs.Strip.{size}
 use Rattle.image.proofs.Scans.{Going, going_start, going_refused, going_finished, going_ends, going_holds, size_some}
 use Rattle.image.proofs.scan.scan.Goals as goal
 
-pub loop-chart-init : goal.loop-chart-init
-loop-chart-init c = subst (λ t. Going c.args.bytes.now t 0 0) (sym c.new-chart.ensures) (going_start c.args.bytes.now)
+pub loop-next-init : goal.loop-next-init
+loop-next-init c = subst (λ t. Going c.args.bytes.now t 0 0 0) (sym c.new-chart.ensures) (going_start c.args.bytes.now)
 
-pub returns-in_err-next_word : goal.returns-in_err-next_word
-returns-in_err-next_word c =
+pub returns-in_err-next : goal.returns-in_err-next
+returns-in_err-next c =
     let p = err_from_is_err_and c.from_residual.result c.from_residual.ensures.1 in
-    rw (p.1, p.2) (going_refused c.args.bytes.now c.loop-chart.chart c.loop-chart.blocks c.loop-chart.at _ c.loop-chart.invariant (sym c.in_err-next_word.ensures))
+    rw (p.1, p.2) (going_refused c.args.bytes.now c.loop-next.chart.items c.loop-next.start c.loop-next.blocks c.loop-next.at _ _ c.len.ensures.value c.loop-next.invariant (sym c.in_err-next.ensures))
 
-pub returns-in-Finished : goal.returns-in-Finished
-returns-in-Finished c =
-    going_finished c.args.bytes.now c.loop-chart.chart c.loop-chart.blocks c.loop-chart.at (λ i. omega (arith, c.type_inv.bytes i)) c.loop-chart.invariant
-    (sym c.in_ok-next_word.ensures ∙ ap Ok c.in-Finished.is)
+pub returns : goal.returns
+returns c =
+    going_finished c.args.bytes.now c.loop-next.chart.items c.loop-next.start c.loop-next.blocks c.loop-next.at _ (λ i. omega (arith, c.type_inv.bytes i)) c.len.ensures.value c.loop-next.invariant
+    (sym c.in_ok-next.ensures ∙ ap Ok c.in_default.is)
 
 pub overflow_add-at : goal.overflow_add-at
-overflow_add-at c = omega (arith, (going_ends _ _ _ _ c.loop-chart.invariant (sym c.in_ok-next_word.ensures ∙ ap Ok c.in-ReelEnds.is)).inside)
+overflow_add-at c = omega (arith, (going_ends _ _ _ _ _ _ c.len.ensures.value c.loop-next.invariant (sym c.in_ok-next.ensures ∙ ap Ok (c.in-Some.is ∙ ap Some c.in-ReelEnds.is))).inside)
 
 -- Behind the end of a reel.
-ended : (c : goal.After-add) → Going c.args.bytes.now (with_reel c.loop-chart.chart c.loop-chart.blocks (c.loop-chart.at + 4)) 0 (c.loop-chart.at + 4)
+ended : (c : goal.After-push) → Going c.args.bytes.now (c.loop-next.chart.items ++ span c.loop-next.start c.loop-next.blocks ∷ []) (c.loop-next.at + 4) 0 (c.loop-next.at + 4)
 ended c =
-    going_ends c.args.bytes.now c.loop-chart.chart c.loop-chart.blocks c.loop-chart.at c.loop-chart.invariant
-    (sym c.in_ok-next_word.ensures ∙ ap Ok c.in-ReelEnds.is)
+    going_ends c.args.bytes.now c.loop-next.chart.items c.loop-next.start c.loop-next.blocks c.loop-next.at _ c.len.ensures.value c.loop-next.invariant
+    (sym c.in_ok-next.ensures ∙ ap Ok (c.in-Some.is ∙ ap Some c.in-ReelEnds.is))
 
-pub loop-chart-smaller-in-ReelEnds : goal.loop-chart-smaller-in-ReelEnds
-loop-chart-smaller-in-ReelEnds c = omega (arith, (ended c).inside)
+pub loop-next-smaller-in-ReelEnds : goal.loop-next-smaller-in-ReelEnds
+loop-next-smaller-in-ReelEnds c = omega (arith, (ended c).inside)
 
-pub loop-chart-preserved-in-ReelEnds : goal.loop-chart-preserved-in-ReelEnds
-loop-chart-preserved-in-ReelEnds c = subst (λ t. Going c.args.bytes.now t 0 (c.loop-chart.at + 4)) (sym c.add.ensures) (ended c)
+pub loop-next-preserved-in-ReelEnds : goal.loop-next-preserved-in-ReelEnds
+loop-next-preserved-in-ReelEnds c = subst (λ t. Going c.args.bytes.now t (c.loop-next.at + 4) 0 (c.loop-next.at + 4)) (sym c.push.ensures.items) (ended c)
 
 -- Behind a block.
-on_holds : (c : goal.After-size-at) → Going c.args.bytes.now c.loop-chart.chart (c.loop-chart.blocks + 1) (c.loop-chart.at + size c.in-Holds.block)
+on_holds : (c : goal.After-size-at) → Going c.args.bytes.now c.loop-next.chart.items c.loop-next.start (c.loop-next.blocks + 1) (c.loop-next.at + size c.in-Holds.block)
 on_holds c =
-    going_holds c.args.bytes.now c.loop-chart.chart c.loop-chart.blocks c.loop-chart.at c.in-Holds.block c.loop-chart.invariant
-    (sym c.in_ok-next_word.ensures ∙ ap Ok c.in-Holds.is)
+    going_holds c.args.bytes.now c.loop-next.chart.items c.loop-next.start c.loop-next.blocks c.loop-next.at _ c.in-Holds.block c.len.ensures.value c.loop-next.invariant
+    (sym c.in_ok-next.ensures ∙ ap Ok (c.in-Some.is ∙ ap Some c.in-Holds.is))
 
 pub overflow_add-at-in-Holds : goal.overflow_add-at-in-Holds
 overflow_add-at-in-Holds c = omega (arith, (on_holds c).inside, c.size-at.ensures)
 
-pub loop-chart-smaller : goal.loop-chart-smaller
-loop-chart-smaller c = omega (arith, (on_holds c).inside, c.size-at.ensures, size_some c.in-Holds.block)
+pub loop-next-smaller : goal.loop-next-smaller
+loop-next-smaller c = omega (arith, (on_holds c).inside, c.size-at.ensures, size_some c.in-Holds.block)
 
-pub loop-chart-preserved : goal.loop-chart-preserved
-loop-chart-preserved c = subst (λ n. Going c.args.bytes.now c.loop-chart.chart (c.loop-chart.blocks + 1) (c.loop-chart.at + n)) (sym c.size-at.ensures) (on_holds c)
+pub loop-next-preserved : goal.loop-next-preserved
+loop-next-preserved c = subst (λ n. Going c.args.bytes.now c.loop-next.chart.items c.loop-next.start (c.loop-next.blocks + 1) (c.loop-next.at + n)) (sym c.size-at.ensures) (on_holds c)

@@ -18,7 +18,7 @@ returns-in-Record g c =
     let size = c.in-Record.size in
     let source = c.source_of.result in
     let took = taken set source buffer size (sym c.fetch_from.ensures.value ∙ ap there c.in_ok-other.was ∙ ap (λ k. there (Ok k)) c.in-Record.is) in
-    let same = ap (source_block f set) c.source_of.ensures.is in
+    let same = ap (source_block f set) c.source_of.ensures in
     record {
       stays = c.fetch_from.ensures.stays;
       value = changed-value f keeps set source buffer size took ∙ ap (λ b. fetched (Some b) (length buffer)) same;
@@ -36,7 +36,7 @@ returns-in_default g c =
     let source = c.source_of.result in
     let was = sym c.fetch_from.ensures.value ∙ ap there c.in_ok-other.was in
     let unchanged = untaken f (length_changed c.args.self.now c.args.piece) set source buffer (λ size e. c.in_default.not-Record size (other_kind (fetched (Some (source_block (λ body. body) set source)) (length buffer)) c.in_ok-other.other size was e)) in
-    let same = ap (source_block f set) c.source_of.ensures.is in
+    let same = ap (source_block f set) c.source_of.ensures in
     record {
       stays = c.fetch_from.ensures.stays;
       value = sym was ∙ unchanged.value ∙ ap (λ b. fetched (Some b) (length buffer)) same;

@@ -22,7 +22,7 @@ returns g c =
       stays = ap (shown c.args.self.now.turning) c.kind_from.ensures.stays;
       value =
           ap Some c.kind_from.ensures.value
-          ∙ kind_shown (changed turning piece) (length_changed turning piece) set c.source_of.result c.source_of.ensures.sized
-          ∙ ap (λ s. kind_of (Some (source_block (changed turning piece) set s))) c.source_of.ensures.is
+          ∙ kind_shown (changed turning piece) (length_changed turning piece) set c.source_of.result
+          ∙ ap (λ s. kind_of (Some (source_block (changed turning piece) set s))) c.source_of.ensures
           ∙ sym (ap kind_of stands);
     }
