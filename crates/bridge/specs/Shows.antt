@@ -1,5 +1,5 @@
 -- Blocks as a deck shows them, in numbers.
-use Rattle.std.specs.Prelude.{ℕ, cond, List, [], ◌∷◌, ◌++◌, length, replicate, Some, None, Ok, Err, Option, Result, ◌==◌}
+use Rattle.std.specs.Prelude.{ℕ, cond, List, [], ◌∷◌, length, replicate, Some, None, Ok, Err, Option, Result, ◌==◌}
 use Rattle.std.specs.List.{flat_map}
 use Rattle.deck.specs.Answers.{kind_of, fetched, filled}
 use Rattle.deck.specs.Tape.{TapeSet, look}
