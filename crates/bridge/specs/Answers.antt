@@ -1,5 +1,6 @@
 -- Answers in numbers.
 use Rattle.std.specs.Prelude.{◌≡◌, ℕ, Bool, cond, ◌&&◌, List, [], ◌∷◌, ◌++◌, map, length, drop, Ok, Err, vec_items, ◌==◌, nat_le}
+use Rattle.std.specs.List.{flat_map}
 use Rattle.deck.specs.Tape.{TapeSet}
 use Rattle.image.specs.Stored.{Verdict}
 use Rattle.image.specs.Strip as strips
@@ -31,12 +32,10 @@ unopened n place = 6 ∷ n ∷ place ∷ 0 ∷ 0 ∷ 0 ∷ []
 
 -- The words of some answers, and the bytes of their buffers, one behind the other.
 abbrev pub all_words : List Reply → List ℕ
-all_words [] = []
-all_words (r ∷ rs) = six r.0 ++ all_words rs
+all_words rs = flat_map (λ r. six r.0) rs
 
 abbrev pub all_buffers : List Reply → List ℕ
-all_buffers [] = []
-all_buffers (r ∷ rs) = r.1 ++ all_buffers rs
+all_buffers rs = flat_map (λ r. r.1) rs
 
 -- What goes over the border: words and bytes.
 pub record Sent : Type 0 where

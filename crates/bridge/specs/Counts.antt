@@ -1,5 +1,5 @@
 -- Lines and blocks that are read only to be counted.
-use Rattle.std.specs.Prelude.{ℕ, ◌+◌, cond, List, [], ◌∷◌, length, Some, None, Ok, Err, Option, nat_lt}
+use Rattle.std.specs.Prelude.{ℕ, cond, List, fold, length, sum_by, Some, None, Ok, Err, Option, nat_lt}
 use Rattle.deck.specs.Answers.{filled}
 use Rattle.deck.specs.Tape.{Block, written, mark, bad, TapeSet, look}
 use Rattle.image.specs.Stored.{Verdict}
@@ -21,13 +21,11 @@ one_if (Err n) = 0
 
 -- How many of some lines are delivered into a buffer of some length.
 abbrev pub delivered_of : TapeSet → Option Accepted → ℕ → List WantedLine → ℕ
-delivered_of set m room [] = 0
-delivered_of set m room (l ∷ ls) = one_if (line_answer set m l.band l.line room) + delivered_of set m room ls
+delivered_of set m room ls = sum_by (λ l. one_if (line_answer set m l.band l.line room)) ls
 
 -- The buffer after some lines, each put at its front.
 abbrev pub after_lines : TapeSet → Option Accepted → ℕ → List WantedLine → List ℕ → List ℕ
-after_lines set m room [] buffer = buffer
-after_lines set m room (l ∷ ls) buffer = after_lines set m room ls (buffer_after (line_answer set m l.band l.line room) buffer)
+after_lines set m room ls buffer = fold (λ b l. buffer_after (line_answer set m l.band l.line room) b) buffer ls
 
 abbrev pub one_if_record : Option Block → ℕ
 one_if_record None = 0
@@ -37,13 +35,11 @@ one_if_record (Some bad) = 0
 
 -- How many of some blocks are records.
 abbrev pub records_of : TapeSet → List WantedBlock → ℕ
-records_of set [] = 0
-records_of set (b ∷ bs) = one_if_record (look set b.reel b.block) + records_of set bs
+records_of set bs = sum_by (λ b. one_if_record (look set b.reel b.block)) bs
 
 -- The buffer after some blocks were fetched into it.
 abbrev pub after_blocks : TapeSet → List WantedBlock → List ℕ → List ℕ
-after_blocks set [] buffer = buffer
-after_blocks set (b ∷ bs) buffer = after_blocks set bs (filled (look set b.reel b.block) buffer)
+after_blocks set bs buffer = fold (λ b w. filled (look set w.reel w.block) b) buffer bs
 
 -- A count, and the buffer afterwards.
 pub record Counted : Type 0 where

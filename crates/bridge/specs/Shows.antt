@@ -1,5 +1,6 @@
 -- Blocks as a deck shows them, in numbers.
-use Rattle.std.specs.Prelude.{ℕ, cond, List, [], ◌∷◌, ◌++◌, length, replicate, Some, None, Ok, Err, Option, Result, ◌==◌}
+use Rattle.std.specs.Prelude.{ℕ, cond, List, [], ◌∷◌, length, replicate, Some, None, Ok, Err, Option, Result, ◌==◌}
+use Rattle.std.specs.List.{flat_map}
 use Rattle.deck.specs.Answers.{kind_of, fetched, filled}
 use Rattle.deck.specs.Tape.{TapeSet, look}
 use Rattle.deck.specs.declared.Kind.{Kind}
@@ -32,12 +33,10 @@ abbrev pub buffer_of : TapeSet → Fetch → List ℕ
 buffer_of set f = filled (look set f.reel f.block) (replicate f.room 165)
 
 abbrev pub words_all : TapeSet → List Fetch → List ℕ
-words_all set [] = []
-words_all set (f ∷ fs) = words_of set f ++ words_all set fs
+words_all set fs = flat_map (words_of set) fs
 
 abbrev pub buffers_all : TapeSet → List Fetch → List ℕ
-buffers_all set [] = []
-buffers_all set (f ∷ fs) = buffer_of set f ++ buffers_all set fs
+buffers_all set fs = flat_map (buffer_of set) fs
 
 -- The number of reels, then four words for each block; and the buffers.
 abbrev pub sent_of : TapeSet → List Fetch → Sent

@@ -3,8 +3,8 @@ ghost use Rattle.std.specs.Prelude.{◌≡◌, ◌⊎◌, length, IfOk};
 ghost use Rattle.bridge.specs.Answers.{sending, Put};
 ghost use Rattle.bridge.specs.Shows.{kind_number, fetch_number, words_of, buffer_of, sent_of, shown};
 
-use super::calls::put;
 use super::buffers::buffer;
+use super::calls::put;
 use super::stored::{opened, piled};
 use super::words::{Told, tell_closed};
 use deck::{Deck, Kind, Short};

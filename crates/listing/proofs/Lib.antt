@@ -1,4 +1,4 @@
 pub mod Reels
 pub mod Going
 pub mod Listed
-pub mod Present
+pub mod Readable

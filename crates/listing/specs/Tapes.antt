@@ -1,5 +1,6 @@
 -- The listing of a tape set: what the survey says of it, and how many lines of each band can be read.
 use Rattle.std.specs.Prelude.{ℕ, zero, suc, ◌+◌, cond, ◌&&◌, List, [], ◌∷◌, ◌++◌, Some, None, Ok, Err, decimal, Option, Result, nat_le}
+use Rattle.std.specs.List.{flat_map}
 use lib.Chars as chars
 use Rattle.deck.specs.Tape.{TapeSet}
 use Rattle.records.specs.declared.layout.Correction.{Correction}
@@ -54,8 +55,7 @@ readable set m code (suc n) = readable set m code n + delivered (line_answer set
 
 -- The lines of some bands, each of so many lines.
 abbrev pub bands_text : TapeSet → Option Accepted → ℕ → List ℕ → List ℕ
-bands_text set m lines [] = []
-bands_text set m lines (c ∷ cs) = band_text c (readable set m c lines) ++ bands_text set m lines cs
+bands_text set m lines cs = flat_map (λ c. band_text c (readable set m c lines)) cs
 
 -- What is written of some bands, one after another.
 abbrev pub each : (ℕ → List ℕ) → List ℕ → List ℕ

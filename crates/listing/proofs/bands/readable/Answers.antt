@@ -1,6 +1,6 @@
 use Rattle.std.proofs.Common.{◌≡◌, length, sym, ap, ◌∙◌, arith}
 use Rattle.listing.specs.Tapes.{readable}
-use Rattle.listing.proofs.Present.{few-readable, one_more, none_more}
+use Rattle.listing.proofs.Readable.{few-readable, one_more, none_more}
 use Rattle.listing.proofs.bands.readable.Goals as goal
 use Rattle.listing.proofs.bands.readable.Goals.{then-is_ok, else-is_ok}
 

@@ -1,5 +1,5 @@
 use Rattle.std.proofs.Common.{◌≡◌, ◌+◌, ◌≤◌, length}
-use Rattle.listing.proofs.Present.{Counted}
+use Rattle.listing.proofs.Readable.{Counted}
 use Rattle.listing.proofs.bands.readable.Given as goal
 
 abbrev pub invariant-loop-line : goal.invariant-loop-line
