@@ -20,7 +20,7 @@ pub const LONGEST_BODY: usize = LONGEST_RECORD - 6;
 pub const MOST_TALLIED: u64 = 9223372036854775807;
 
 // A reader owns its deck. It remembers what its last survey accepted, and how many lines it has delivered.
-// It has no model: five crates say and prove what its deck, what is accepted and its tally are, and only the scratch buffer would be hidden.
+// No model: the clauses and proofs of five crates name its deck, what is accepted and its tally; a model would hide the scratch buffer alone.
 #[derive(Drop)]
 pub struct Reader<D> {
     deck: D,
