@@ -2,6 +2,7 @@
 #![tactic(auto)]
 
 mod laws;
+mod list;
 mod measured;
 mod record_lines;
 mod sheets;

@@ -2,14 +2,14 @@
 ghost use Rattle.std.specs.Prelude.{◌≡◌, IfOk, string_bytes};
 ghost use Rattle.fieldlist.specs.Measured.{measured, line_text, wanted_text};
 
-use super::record_lines::{image_lines, record_of, refused_line};
-use super::sheets::{LONGEST_BODY, number};
+use super::list::FieldList;
+use super::record_lines::{Subject, record_of};
 use deck::Deck;
 use fields::FieldFault;
 use listing::band_name;
-use reader::{Outline, Reader};
+use reader::{LONGEST_BODY, Outline};
 use records::{Correction, IMAGE, Sensor};
-use std::alloc::{AllocError, Global};
+use std::alloc::AllocError;
 
 // A line of a band, by the band's code and the line's number.
 #[derive(Clone, Copy)]
@@ -22,49 +22,46 @@ pub struct Wanted {
 fn is_measured(sensor: Sensor, correction: Correction) -> bool
     ensures { result ≡ measured sensor correction }
 {
-    match (sensor, correction) {
-        (Sensor::Mss, Correction::Uncorrected) => true,
-        (Sensor::Mss, Correction::Corrected) => false,
-        (Sensor::Rbv, _) => false,
-    }
+    matches!((sensor, correction), (Sensor::Mss, Correction::Uncorrected))
 }
 
-// The fields of a line of a set that has this outline.
-fn line_fields<D: Deck>(
-    heap: Global,
-    reader: &mut Reader<D>,
-    outline: Outline,
-    wanted: Wanted,
-) -> Result<String, AllocError>
-    ensures { IfOk result (λ t. string_bytes t ≡ line_text (D.meaning reader.old.deck) reader.old.accepted outline wanted) }
-{
-    let line = wanted.line;
-    let name = band_name(heap, wanted.band)?;
-    let subject = format!(in heap; "LINE {name} {line}")?;
-    let mut body = [0; LONGEST_BODY];
-    match reader.line(wanted.band, line, &mut body) {
-        Ok(length) => {
-            if !is_measured(outline.sensor, outline.correction) {
-                return refused_line(heap, subject.as_str(), FieldFault::Record.number());
+impl<D: Deck> FieldList<D> {
+    // The fields of a line of a set that has this outline.
+    fn line(&mut self, outline: Outline, wanted: Wanted) -> Result<String, AllocError>
+        ensures { IfOk result (λ t. string_bytes t ≡ line_text self.old.set self.old.accepted outline wanted) }
+    {
+        let heap = self.heap;
+        let line = wanted.line;
+        let band = band_name(heap, wanted.band)?;
+        let name = format!(in heap; "LINE {band} {line}")?;
+        let subject = Subject {
+            heap,
+            name: name.as_str(),
+        };
+        let mut body = [0; LONGEST_BODY];
+        match self.reader.line(wanted.band, line, &mut body) {
+            Ok(length) => {
+                if !is_measured(outline.sensor, outline.correction) {
+                    return subject.refused(FieldFault::Record.number());
+                }
+                let record = record_of(heap, IMAGE, &body[..length])?;
+                subject.image(record.as_slice())
             }
-            let record = record_of(heap, IMAGE, &body[..length])?;
-            image_lines(heap, subject.as_str(), record.as_slice())
+            Err(refusal) => subject.refused(refusal.report().number),
         }
-        Err(refusal) => refused_line(heap, subject.as_str(), number(refusal)),
     }
-}
 
-// The fields of the line that is wanted, if one is.
-pub(crate) fn wanted_line<D: Deck>(
-    heap: Global,
-    reader: &mut Reader<D>,
-    outline: Outline,
-    wanted: Option<Wanted>,
-) -> Result<String, AllocError>
-    ensures { IfOk result (λ t. string_bytes t ≡ wanted_text (D.meaning reader.old.deck) reader.old.accepted outline wanted) }
-{
-    match wanted {
-        Some(wanted) => line_fields(heap, reader, outline, wanted),
-        None => Ok(String::new(heap)),
+    // The fields of the line that is wanted, if one is.
+    pub(crate) fn wanted_line(
+        &mut self,
+        outline: Outline,
+        wanted: Option<Wanted>,
+    ) -> Result<String, AllocError>
+        ensures { IfOk result (λ t. string_bytes t ≡ wanted_text self.old.set self.old.accepted outline wanted) }
+    {
+        match wanted {
+            Some(wanted) => self.line(outline, wanted),
+            None => Ok(String::new(self.heap)),
+        }
     }
 }

@@ -1,9 +1,8 @@
 // Bytes of a record as text.
-ghost use Rattle.std.specs.Prelude.{◌≡◌, ◌<◌, false, ◌++◌, IfOk, string_bytes, OnOk};
-ghost use Rattle.std.specs.Fmt.{digit_glyph};
+ghost use Rattle.std.specs.Prelude.{◌≡◌, Some};
 ghost use Rattle.fieldlist.specs.Shown.{plain, shown_byte, quoted};
 
-use std::alloc::{AllocError, Global};
+use std::fmt;
 
 // Whether a byte is shown as it is: a printable character that is neither the quote nor the backslash.
 fn is_plain(byte: u8) -> bool
@@ -12,38 +11,35 @@ fn is_plain(byte: u8) -> bool
     b' ' <= byte && byte <= b'~' && byte != b'"' && byte != b'\\'
 }
 
-fn hex_digit(value: u8) -> char
-    requires { value < 16 }
-    ensures { result ≡ digit_glyph false value }
-{
-    if value < 10 {
-        (b'0' + value) as char
-    } else {
-        (b'a' + (value - 10)) as char
+// A byte, which is shown as it is or by its two hexadecimal digits.
+#[derive(Clone, Copy)]
+struct Shown(u8);
+
+impl fmt::Display for Shown {
+    ghost output = { λ s. Some (shown_byte s.0) };
+
+    fn fmt<W: fmt::Write>(&self, f: &mut fmt::Formatter<W>) -> fmt::Result {
+        let byte = self.0;
+        if is_plain(byte) {
+            write!(f, "{}", char::from(byte))
+        } else {
+            write!(f, "\\{byte:02x}")
+        }
     }
 }
 
-// Adds a byte to a text.
-fn push_byte(text: &mut String, byte: u8) -> Result<(), AllocError>
-    ensures { OnOk result (string_bytes text.new ≡ string_bytes text.old ++ shown_byte byte) }
-{
-    if is_plain(byte) {
-        return text.push(byte as char);
-    }
-    text.push('\\')?;
-    text.push(hex_digit(byte / 16))?;
-    text.push(hex_digit(byte % 16))?;
-    Ok(())
-}
+// Some bytes, which are shown in quotes.
+#[derive(Clone, Copy)]
+pub(crate) struct Quoted<'a>(pub(crate) &'a [u8]);
 
-// Some bytes, in quotes.
-pub(crate) fn quoted(heap: Global, bytes: &[u8]) -> Result<String, AllocError>
-    ensures { IfOk result (λ t. string_bytes t ≡ quoted bytes.now) }
-{
-    let mut text = String::from_str(heap, "\"")?;
-    for byte in bytes {
-        push_byte(&mut text, *byte)?;
+impl fmt::Display for Quoted<'_> {
+    ghost output = { λ q. Some (quoted q.0.now) };
+
+    fn fmt<W: fmt::Write>(&self, f: &mut fmt::Formatter<W>) -> fmt::Result {
+        f.write_str("\"")?;
+        for byte in self.0 {
+            write!(f, "{}", Shown(*byte))?;
+        }
+        f.write_str("\"")
     }
-    text.push('"')?;
-    Ok(text)
 }

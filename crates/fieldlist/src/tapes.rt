@@ -1,29 +1,17 @@
 // The fields of a deck's or a strip's tape set.
 ghost use Rattle.std.specs.Prelude.{◌≡◌, IfOk, string_bytes};
-ghost use Rattle.records.specs.Layouts.{annotations};
 ghost use Rattle.fieldlist.specs.Tapes.{tape_text, strip_text};
 
-use super::measured::{Wanted, wanted_line};
-use super::sheets::annotations;
+use super::list::FieldList;
+use super::measured::Wanted;
 use deck::Deck;
-use image::Strip;
+use image::{Image, Strip};
 use listing::{fault_line, refusal};
 use reader::Reader;
-use records::Correction;
 use std::alloc::{AllocError, Global};
 
 // The longest strip that is read, in bytes. Any strip of an uncorrected set has over a hundred thousand, by its many ancillary records.
 const LONGEST_STRIP: usize = 1048576;
-
-// How many annotation records a band has.
-fn annotation_count(correction: Correction) -> u32
-    ensures { result ≡ annotations correction }
-{
-    match correction {
-        Correction::Corrected => 1,
-        Correction::Uncorrected => 2,
-    }
-}
 
 // The fields of what a deck holds: of each annotation record, and of the line that is wanted. Or the fault.
 pub fn tape_fields<D: Deck + Drop>(
@@ -36,8 +24,9 @@ pub fn tape_fields<D: Deck + Drop>(
     let mut reader = Reader::new(deck);
     match reader.survey() {
         Ok(outline) => {
-            let annotations = annotations(heap, &mut reader, annotation_count(outline.correction))?;
-            let line = wanted_line(heap, &mut reader, outline, wanted)?;
+            let mut list = FieldList { heap, reader };
+            let annotations = list.annotations(outline.correction.annotations())?;
+            let line = list.wanted_line(outline, wanted)?;
             format!(in heap; "{annotations}{line}")
         }
         Err(refusal) => fault_line(heap, refusal),
