@@ -18,14 +18,14 @@ on now set reel block o stays e = e ∙ ap (λ s. block_at (look s reel block)) 
 
 -- The block at a place, or the end.
 there : (xs : Reel) (n : ℕ) (bytes : List ℕ) → Some bytes ≡ block_at (nth xs n) → (n < length xs) × (flat_map block_bytes (drop n xs) ≡ bytes ++ flat_map block_bytes (drop (suc n) xs))
-there [] n bytes e = let z : ◌≡◌ {A = ℕ} 0 1 = cc in absurd (omega arith)
+there [] n bytes e = cc
 there (x ∷ xs) zero bytes e = let is : block_bytes x ≡ bytes = cc in (omega arith, ap (λ b. b ++ flat_map block_bytes xs) is)
 there (x ∷ xs) (suc n) bytes e = let h = there xs n bytes e in (omega (arith, h.0), h.1)
 
 behind : (xs : Reel) (n : ℕ) → None ≡ block_at (nth xs n) → flat_map block_bytes (drop n xs) ≡ []
 behind [] zero e = refl
 behind [] (suc n) e = refl
-behind (x ∷ xs) zero e = let z : ◌≡◌ {A = ℕ} 0 1 = cc in absurd (omega arith)
+behind (x ∷ xs) zero e = cc
 behind (x ∷ xs) (suc n) e = behind xs n e
 
 -- The bytes are those of the blocks before the block `block`.

@@ -14,8 +14,7 @@ use std::alloc::{AllocError, Global};
 fn word_bytes(heap: Global, value: u32) -> Result<Vec<u8>, AllocError>
     ensures { IfOk result (λ v. v.items ≡ word value) }
 {
-    let [a, b, c, d] = value.to_be_bytes();
-    Ok(vec![in heap; a, b, c, d]?)
+    Ok(Vec::from_array(heap, value.to_be_bytes())?)
 }
 
 // A record between two words of its length.
@@ -23,11 +22,11 @@ fn record_bytes(heap: Global, content: &[u8]) -> Result<Vec<u8>, AllocError>
     requires { length content.now ≤ 5388 }
     ensures { IfOk result (λ v. v.items ≡ record_bytes content.now) }
 {
-    let length = word_bytes(heap, content.len() as u32)?;
+    let length = (content.len() as u32).to_be_bytes();
     let mut bytes = Vec::new(heap);
-    bytes.extend_from_slice(length.as_slice())?;
+    bytes.extend_from_slice(&length)?;
     bytes.extend_from_slice(content)?;
-    bytes.extend_from_slice(length.as_slice())?;
+    bytes.extend_from_slice(&length)?;
     Ok(bytes)
 }
 
@@ -63,8 +62,7 @@ fn reel_bytes<D: Deck>(heap: Global, deck: &mut D, reel: u32) -> Result<Vec<u8>,
         };
         bytes.extend_from_slice(stored.as_slice())?;
     }
-    let end = word_bytes(heap, REEL_END)?;
-    bytes.extend_from_slice(end.as_slice())?;
+    bytes.extend_from_slice(&REEL_END.to_be_bytes())?;
     Ok(bytes)
 }
 

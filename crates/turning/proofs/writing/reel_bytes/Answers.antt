@@ -1,4 +1,4 @@
-use Rattle.std.proofs.Common.{◌≡◌, ◌++◌, Some, None, vec_items, sym, refl, ap, ◌∙◌, arith}
+use Rattle.std.proofs.Common.{◌≡◌, ◌++◌, Some, None, vec_items, sym, refl, ap, ◌∙◌, arith, rules}
 use Rattle.std.specs.List.{flat_map}
 use Rattle.std.proofs.lemmas.Slice.{pushed}
 use Rattle.deck.specs.Tape.{from_one}
@@ -34,6 +34,5 @@ returns-clause-bytes g c =
           going_done xs c.loop-block.block bytes c.loop-block.invariant.1
           (on (g.D.Deck.meaning c.loop-block.deck) set c.args.reel c.loop-block.block None c.loop-block.invariant.0 (sym (ap told_bytes w.in_default.is) ∙ w.in_ok-stored.ensures.bytes))
     ] in
-    pushed c.as_slice-2.result.now refl c.in_ok-extend_from_slice-2.was c.extend_from_slice-2.ensures.items
-    ∙ ap (λ t. bytes ++ t) (c.as_slice-2.ensures.value ∙ c.in_ok-end.ensures)
-    ∙ ap (λ t. t ++ word 4294967294) all
+    let end : c.to_be_bytes.result ≡ word 4294967294 = search rules in
+    pushed c.to_be_bytes.result refl c.in_ok-extend_from_slice-2.was c.extend_from_slice-2.ensures.items ∙ ap (λ t. bytes ++ t) end ∙ ap (λ t. t ++ word 4294967294) all

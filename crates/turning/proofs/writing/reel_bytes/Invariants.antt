@@ -1,4 +1,4 @@
-use Rattle.std.proofs.Common.{◌≡◌, ◌+◌, ◌-◌, length, vec_items}
+use Rattle.std.proofs.Common.{◌≡◌, vec_items}
 use Rattle.listing.specs.Blocks.{reel_of}
 use Rattle.turning.proofs.Strips.{Going}
 use Rattle.turning.proofs.writing.reel_bytes.Given as goal
