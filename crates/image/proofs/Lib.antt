@@ -2,6 +2,7 @@ pub mod Options
 pub mod Words
 pub mod Rows
 pub mod Strips
+pub mod Charts
 pub mod Scans
 pub mod Places
 pub mod Openings

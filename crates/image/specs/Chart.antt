@@ -1,22 +1,13 @@
 -- The chart of a strip: where its reels begin, and how many blocks they have.
-use Rattle.std.specs.Prelude.{◌≡◌, ℕ, ◌+◌, ◌<◌, ◌≤◌, [], length, take, set, replicate, slice_index, slice_index_or}
+use Rattle.std.specs.Prelude.{ℕ, ◌+◌, List, [], ◌∷◌, length}
 use Rattle.deck.specs.Tape.{TapeSet}
-use Rattle.image.specs.Strip.{encoded}
-use Rattle.image.specs.declared.chart.Chart.{Chart}
+use Rattle.image.specs.Strip.{reel_bytes}
+use Rattle.image.specs.declared.chart.Span.{Span}
 
-abbrev pub no_reels : Chart
-no_reels = record { reels = 0; starts = replicate 10 0; counts = replicate 9 0 }
+abbrev pub span : ℕ → ℕ → Span
+span start blocks = record { start = start; blocks = blocks }
 
--- The chart with one reel more.
-abbrev pub with_reel : Chart → ℕ → ℕ → Chart
-with_reel c blocks end = record {
-  reels = c.reels + 1;
-  starts = set c.starts (c.reels + 1) end;
-  counts = set c.counts c.reels blocks;
-}
-
--- The chart is that of a set.
-pub record Charts (set : TapeSet) (c : Chart) : Type 0 where
-  pub many : c.reels ≡ length set
-  pub starts : (i : ℕ) → i ≤ length set → slice_index c.starts i ≡ length (encoded (take i set))
-  pub counts : (i : ℕ) → i < length set → slice_index c.counts i ≡ length (slice_index_or set i [])
+-- The spans of the reels of a set, the first of which begins at a place.
+abbrev pub spans : ℕ → TapeSet → List Span
+spans at [] = []
+spans at (reel ∷ set) = span at (length reel) ∷ spans (at + length (reel_bytes reel)) set

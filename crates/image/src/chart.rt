@@ -1,33 +1,13 @@
 // Where the reels of a strip lie.
-ghost use Rattle.std.specs.Prelude.{◌≡◌, ◌<◌};
-ghost use Rattle.image.specs.Chart.{no_reels, with_reel};
+use arrayvec::ArrayVec;
+use deck::MOST_REELS;
 
-// For each reel where it begins and how many blocks it has. The start behind that of the last reel is where the strip ends.
-#[derive(Clone, Copy)]
-pub struct Chart {
-    pub reels: usize,
-    pub starts: [usize; 10],
-    pub counts: [u32; 9],
+// Where a reel begins, and how many blocks it has.
+#[derive(Clone, Copy, Default)]
+pub struct Span {
+    pub start: usize,
+    pub blocks: u32,
 }
 
-impl Chart {
-    pub(crate) fn new() -> Self
-        ensures { result ≡ no_reels }
-    {
-        Chart {
-            reels: 0,
-            starts: [0; 10],
-            counts: [0; 9],
-        }
-    }
-
-    // One more reel, which has so many blocks and ends there.
-    pub(crate) fn add(&mut self, blocks: u32, end: usize)
-        requires { self.old.reels < 9 }
-        ensures { self.new ≡ with_reel self.old blocks end }
-    {
-        self.counts[self.reels] = blocks;
-        self.reels += 1;
-        self.starts[self.reels] = end;
-    }
-}
+// The spans of a strip's reels in order.
+pub type Chart = ArrayVec<Span, MOST_REELS>;

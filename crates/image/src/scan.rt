@@ -4,7 +4,7 @@ ghost use Rattle.image.specs.Scan.{Scanned};
 ghost use Rattle.image.specs.Stored.{number, Short};
 ghost use Rattle.image.specs.Strip.{verdict, size};
 
-use super::chart::Chart;
+use super::chart::{Chart, Span};
 use super::next::{Next, next_word};
 use super::refusal::Refusal;
 use deck::Kind;
@@ -23,16 +23,18 @@ pub(crate) fn size(block: Kind<usize>) -> usize
 
 // The chart of the reels of a strip, or the first check that fails.
 pub(crate) fn scan(bytes: &[u8]) -> Result<Chart, Refusal>
-    ensures { MatchResult result (Scanned bytes.now) (λ e. verdict bytes.now ≡ Err (number e.cause, e.offset)) }
+    ensures { MatchResult result (λ c. Scanned bytes.now c.items) (λ e. verdict bytes.now ≡ Err (number e.cause, e.offset)) }
 {
     let mut chart = Chart::new();
+    let mut start = 0;
     let mut blocks = 0;
     let mut at = 0;
-    while let Some(next) = next_word(bytes, at, chart.reels, blocks)? {
+    while let Some(next) = next_word(bytes, at, chart.len(), blocks)? {
         match next {
             Next::ReelEnds => {
                 at += 4;
-                chart.add(blocks, at);
+                chart.push(Span { start, blocks });
+                start = at;
                 blocks = 0;
             }
             Next::Holds(block) => {

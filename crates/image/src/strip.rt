@@ -1,6 +1,7 @@
 // The strip: a tape set written from its first block to its last.
-ghost use Rattle.std.specs.Prelude.{◌≡◌, ℕ, ◌<◌, ◌≤◌, true, [], length, take, is_ok, slice_index, slice_index_or};
+ghost use Rattle.std.specs.Prelude.{◌≡◌, ◌<◌, ◌≤◌, true, [], length, is_ok, slice_index_or};
 ghost use Rattle.deck.specs.Tape.{Sound};
+ghost use Rattle.image.specs.Chart.{spans};
 ghost use Rattle.image.specs.Sole.{sole};
 ghost use Rattle.image.specs.Strip.{encoded, verdict, meant, place};
 
@@ -21,10 +22,7 @@ pub struct Strip {
     ghost judged: { is_ok (verdict bytes.items) ≡ true },
     ghost sound: { Sound (meant bytes.items) } by { sole (meant bytes.items) },
     ghost spells: { encoded (meant bytes.items) ≡ bytes.items },
-    ghost few: { chart.reels ≤ 9 },
-    ghost many: { chart.reels ≡ length (meant bytes.items) },
-    ghost starts: { (i : ℕ) → i ≤ length (meant bytes.items) → slice_index chart.starts i ≡ length (encoded (take i (meant bytes.items))) },
-    ghost counts: { (i : ℕ) → i < length (meant bytes.items) → slice_index chart.counts i ≡ length (slice_index_or (meant bytes.items) i []) },
+    ghost charted: { chart.items ≡ spans 0 (meant bytes.items) },
     ghost on_reel: { cursor.reel < length (meant bytes.items) },
     ghost on_block: { cursor.block ≤ length (slice_index_or (meant bytes.items) cursor.reel []) },
     ghost here: { cursor.at ≡ place (meant bytes.items) cursor.reel cursor.block },

@@ -1,5 +1,4 @@
 pub mod Reels
 pub mod Going
 pub mod Listed
-pub mod Names
 pub mod Present

@@ -1,6 +1,5 @@
 -- The listing of the blocks of a tape set.
 use Rattle.std.specs.Prelude.{ℕ, ◌+◌, Bool, true, false, cond, List, [], ◌∷◌, ◌++◌, length, Some, None, codes, decimal, Option, ◌==◌}
-use Rattle.deck.specs.Answers.{kind_of}
 use Rattle.deck.specs.Tape.{Block, written, mark, bad, Reel, TapeSet, from_one}
 use Rattle.deck.specs.declared.Kind.{Kind}
 use Rattle.deck.specs.declared.Kind.TheVariants.{Record, Mark, Bad}
@@ -9,12 +8,17 @@ use Rattle.deck.specs.declared.Kind.TheVariants.{Record, Mark, Bad}
 abbrev pub noun_for : ℕ → List ℕ → List ℕ → List ℕ
 noun_for n one many = cond (n == 1) one many
 
--- The line of a run of `n` blocks of a kind, and nothing where there is no block.
-abbrev pub run_text : ℕ → Option (Kind ℕ) → List ℕ
-run_text n (Some (Record size)) = decimal n ++ (codes " " ++ (noun_for n (codes "record") (codes "records") ++ (codes " of " ++ (decimal size ++ codes "\n"))))
-run_text n (Some Mark) = decimal n ++ (codes " " ++ (noun_for n (codes "mark") (codes "marks") ++ codes "\n"))
-run_text n (Some Bad) = decimal n ++ codes " bad\n"
-run_text n None = []
+-- The kind of a block, a record with its length.
+abbrev pub block_kind : Block → Kind ℕ
+block_kind (written bytes) = Record (length bytes)
+block_kind mark = Mark
+block_kind bad = Bad
+
+-- The line of a run of `n` blocks of a kind.
+abbrev pub run_text : ℕ → Kind ℕ → List ℕ
+run_text n (Record size) = decimal n ++ (codes " " ++ (noun_for n (codes "record") (codes "records") ++ (codes " of " ++ (decimal size ++ codes "\n"))))
+run_text n Mark = decimal n ++ (codes " " ++ (noun_for n (codes "mark") (codes "marks") ++ codes "\n"))
+run_text n Bad = decimal n ++ codes " bad\n"
 
 -- Blocks of the same kind, and records of the same length.
 abbrev pub alike : Block → Block → Bool
@@ -31,8 +35,8 @@ alike bad bad = true
 -- The lines of the runs of some blocks, of which the first is the `n`-th block of its run.
 abbrev pub runs_text : ℕ → Reel → List ℕ
 runs_text n [] = []
-runs_text n (b ∷ []) = run_text n (kind_of (Some b))
-runs_text n (b ∷ c ∷ blocks) = cond (alike b c) (runs_text (n + 1) (c ∷ blocks)) (run_text n (kind_of (Some b)) ++ runs_text 1 (c ∷ blocks))
+runs_text n (b ∷ []) = run_text n (block_kind b)
+runs_text n (b ∷ c ∷ blocks) = cond (alike b c) (runs_text (n + 1) (c ∷ blocks)) (run_text n (block_kind b) ++ runs_text 1 (c ∷ blocks))
 
 -- A reel by its number: how many blocks it has, and its runs.
 abbrev pub reel_text : ℕ → Reel → List ℕ

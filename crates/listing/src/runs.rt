@@ -1,20 +1,21 @@
 // A reel as runs of equal blocks.
-ghost use Rattle.std.specs.Prelude.{◌≡◌, length, IfOk, string_bytes};
-ghost use Rattle.listing.specs.Blocks.{noun_for, run_text, runs_text, reel_text, reel_of};
+ghost use Rattle.std.specs.Prelude.{◌≡◌, map, IfOk, string_bytes};
+ghost use Rattle.deck.specs.Tape.{Reel};
+ghost use Rattle.listing.specs.Blocks.{noun_for, block_kind, run_text, runs_text, reel_text, reel_of};
 
-use deck::{Deck, Kind};
+use deck::{Deck, Kind, MOST_BLOCKS};
 use std::alloc::{AllocError, Global};
 
 // The word for so many.
-fn noun<'a>(count: u32, one: &'a str, many: &'a str) -> &'a str
+fn noun<'a>(count: usize, one: &'a str, many: &'a str) -> &'a str
     ensures { result.now ≡ noun_for count one.now many.now }
 {
     if count == 1 { one } else { many }
 }
 
 // The line of a run.
-fn run_line(heap: Global, count: u32, kind: Kind<usize>) -> Result<String, AllocError>
-    ensures { IfOk result (λ t. string_bytes t ≡ run_text count (Some kind)) }
+fn run_line(heap: Global, count: usize, kind: Kind<usize>) -> Result<String, AllocError>
+    ensures { IfOk result (λ t. string_bytes t ≡ run_text count kind) }
 {
     match kind {
         Kind::Record(length) => {
@@ -29,36 +30,33 @@ fn run_line(heap: Global, count: u32, kind: Kind<usize>) -> Result<String, Alloc
     }
 }
 
-// How many blocks a reel has.
-fn count_blocks<D: Deck>(deck: &mut D, reel: u32) -> u32
+// The kinds of the blocks of a reel.
+fn kinds<D: Deck>(heap: Global, deck: &mut D, reel: u32) -> Result<Vec<Kind<usize>>, AllocError>
     ensures stays { D.meaning deck.new ≡ D.meaning deck.old }
-    ensures value { result ≡ length (reel_of (D.meaning deck.old) reel) }
+    ensures value { IfOk result (λ v. v.items ≡ map block_kind (reel_of (D.meaning deck.old) reel)) }
 {
-    let mut count = 0;
-    while deck.kind(reel, count + 1).is_some() {
-        count += 1;
+    let mut kinds = Vec::new(heap);
+    for block in 1..=MOST_BLOCKS {
+        let Some(kind) = deck.kind(reel, block) else {
+            break;
+        };
+        kinds.push(kind)?;
     }
-    count
+    Ok(kinds)
 }
 
-// The lines of the runs of a reel.
-fn runs<D: Deck>(heap: Global, deck: &mut D, reel: u32) -> Result<String, AllocError>
-    ensures stays { D.meaning deck.new ≡ D.meaning deck.old }
-    ensures text { IfOk result (λ t. string_bytes t ≡ runs_text 1 (reel_of (D.meaning deck.old) reel)) }
+// The lines of the runs of blocks of these kinds.
+fn runs(heap: Global, kinds: &[Kind<usize>]) -> Result<String, AllocError>
+    ensures { (reel : Reel) → kinds.now ≡ map block_kind reel → IfOk result (λ t. string_bytes t ≡ runs_text 1 reel) }
 {
     let mut text = String::new(heap);
-    let mut block = 1;
     let mut count = 1;
-    let mut kind = deck.kind(reel, block);
-    while let Some(here) = kind {
-        block += 1;
-        let next = deck.kind(reel, block);
-        if next == kind {
+    for (index, kind) in kinds.iter().enumerate() {
+        if kinds.get(index + 1).copied() == Some(*kind) {
             count += 1;
         } else {
-            let line = run_line(heap, count, here)?;
+            let line = run_line(heap, count, *kind)?;
             text.push_str(line.as_str())?;
-            kind = next;
             count = 1;
         }
     }
@@ -70,8 +68,9 @@ pub fn reel_listing<D: Deck>(heap: Global, deck: &mut D, reel: u32) -> Result<St
     ensures stays { D.meaning deck.new ≡ D.meaning deck.old }
     ensures text { IfOk result (λ t. string_bytes t ≡ reel_text reel (reel_of (D.meaning deck.old) reel)) }
 {
-    let count = count_blocks(deck, reel);
+    let kinds = kinds(heap, deck, reel)?;
+    let count = kinds.len();
     let blocks = noun(count, "block", "blocks");
-    let runs = runs(heap, deck, reel)?;
+    let runs = runs(heap, kinds.as_slice())?;
     format!(in heap; "reel {reel}: {count} {blocks}\n{runs}")
 }

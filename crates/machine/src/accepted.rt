@@ -3,7 +3,7 @@ ghost use Rattle.std.specs.Prelude.{◌≡◌};
 ghost use Rattle.machine.specs.Findings.{start, lines_of, accepted};
 
 use super::machine::{Expect, Group, Machine, Onward, Place};
-use records::{Bands, Content, Correction, DIRECTORY_LENGTH, Form, Layout};
+use records::{Bands, Content, Correction, DIRECTORY_LENGTH, Form, Header, Layout};
 
 // What an accepted set is a picture of.
 #[derive(Clone, Copy)]
@@ -16,7 +16,7 @@ pub struct Summary {
     pub lines: u32,
 }
 
-// Where the records of an accepted set lie, group by group.
+// Where the records of an accepted set lie, group by group. A count stands beside the table, since there is no heap and places are copied whole.
 #[derive(Clone, Copy)]
 pub struct Places {
     pub groups: usize,
@@ -34,15 +34,11 @@ impl Machine {
     pub fn new(reels: u32) -> Self
         ensures { result ≡ start reels }
     {
-        let nowhere = Place { reel: 0, block: 0 };
-        let group = Group {
+        let nothing = Header {
             content: Content::One(0),
             trailers: 0,
-            header: nowhere,
-            trailer: nowhere,
-            blocks: 0,
-            through: [0; 9],
         };
+        let group = Group::begun_by(nothing, Place { reel: 0, block: 0 });
         Machine {
             reels,
             expect: Expect::Directory(Some(Onward::Header)),

@@ -9,7 +9,9 @@ use records::{Cause, Content, Form, IMAGE, SetFault, TRAILER, check, present};
 // The most lines of a band.
 const MOST_LINES: u32 = 8192;
 
-// Whether every byte of a body is zero. The bits of all are gathered and asked for once, which is quicker than to ask at each byte.
+// Whether every byte of a body is zero. A loop and no `all`: the bits of all are gathered and asked for once, which is quicker than to ask at each
+// byte.
+#[tactic(auto, using(crate::proofs::Zeros::zero_more, crate::proofs::Zeros::zero_all))]
 fn all_zero(body: &[u8]) -> bool
     ensures { result ≡ all_zero body.now }
 {
@@ -21,6 +23,7 @@ fn all_zero(body: &[u8]) -> bool
 }
 
 // The same of a record's body, which begins with its seventh byte.
+#[tactic(auto, using(std::proofs::lemmas::List::take_rest))]
 fn zero_body(bytes: &[u8]) -> bool
     requires { 6 ≤ length bytes.now }
     ensures { result ≡ all_zero (drop 6 bytes.now) }
@@ -29,7 +32,8 @@ fn zero_body(bytes: &[u8]) -> bool
 }
 
 impl Group {
-    // One image block more on a reel. There are nine reels at most.
+    // One image block more on a reel. There are nine reels at most. The index is tested, since no proof knows the elements behind an array's
+    // `get_mut`.
     fn add_block(&mut self, reel: u32)
         requires { self.old.blocks < 4294967295 }
         ensures { self.new ≡ one_more self.old reel }

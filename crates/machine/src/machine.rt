@@ -1,5 +1,8 @@
 // The survey's machine: what it has read, and what it expects.
-use records::{Bands, Content, DIRECTORY_LENGTH, Layout};
+ghost use Rattle.std.specs.Prelude.{◌≡◌};
+ghost use Rattle.machine.specs.Machines.{fresh};
+
+use records::{Bands, Content, DIRECTORY_LENGTH, Header, Layout};
 
 // A block of a reel, both counted from 1.
 #[derive(Clone, Copy, PartialEq, Eq, Debug)]
@@ -55,6 +58,23 @@ pub struct Group {
     pub through: [u32; 9],
 }
 
+impl Group {
+    // A group that a header begins.
+    pub(crate) fn begun_by(header: Header, at: Place) -> Self
+        ensures { result ≡ fresh header at }
+    {
+        Group {
+            content: header.content,
+            trailers: header.trailers,
+            header: at,
+            trailer: at,
+            blocks: 0,
+            through: [0; 9],
+        }
+    }
+}
+
+// `Steady` stands in the contracts of the steps and not here as an invariant: anyone may set the fields, and `new` takes any number of reels.
 #[derive(Clone, Copy)]
 pub struct Machine {
     // the deck's reels
@@ -63,7 +83,7 @@ pub struct Machine {
     // the first directory, and what it says
     pub directory: [u8; DIRECTORY_LENGTH],
     pub layout: Layout,
-    // the group that is read, and those that have been read
+    // the group that is read, and those that have been read: a table of five and a count, since there is no heap and a machine is copied whole
     pub group: Group,
     pub groups: usize,
     pub table: [Group; 5],

@@ -71,14 +71,7 @@ impl Machine {
             Content::Mixed(_) => 0,
         };
         let header = read_header(bytes, self.layout, last)?;
-        self.group = Group {
-            content: header.content,
-            trailers: header.trailers,
-            header: at,
-            trailer: at,
-            blocks: 0,
-            through: [0; 9],
-        };
+        self.group = Group::begun_by(header, at);
         self.bands.add_all(header.content);
         self.expect = Expect::Attribute(2);
         Ok(())
@@ -148,12 +141,13 @@ impl Machine {
         Ok(())
     }
 
-    // The group that is read joins those that have been read. Bands rise, so there are no more than five.
+    // The group that is read joins those that have been read. Bands rise, so there are no more than five. The index is tested, since no proof knows
+    // the elements behind an array's `get_mut`.
     fn close_group(&mut self) -> Result<(), Cause>
         ensures says { stepped result self.new ≡ Ok (expecting (closed self.old) Expect.BehindTrailer) }
         ensures stays_steady { Steady self.old → OnOk result (Steady self.new) }
     {
-        if self.groups < 5 {
+        if self.groups < self.table.len() {
             self.table[self.groups] = self.group;
             self.groups += 1;
         }

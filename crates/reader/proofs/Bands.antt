@@ -17,16 +17,7 @@ use Rattle.survey.specs.Recordings.{Line, Files}
 use Rattle.survey.specs.Validity.{content, header_record, all_lines, width, bands_wide, ValidFiles, ValidGroups}
 use Rattle.reader.specs.Finding.{index_of}
 use Rattle.reader.specs.Pictured.{no_sheets}
-
-some_is : {X : Type 0} {x y : X} → Some x ≡ Some y → x ≡ y
-some_is e = cc
-
-none_is : {X Y : Type 0} {x : X} → None ≡ Some x → Y
-none_is e = let u : ◌≡◌ {A = ℕ} 0 1 = cc in absurd (omega arith)
-
-head_valid : (l : Layout) (lines last : ℕ) (f : Files) (gs : List Files) → ValidGroups l lines last (f ∷ gs) → ValidFiles l lines last f
-head_valid l lines last f [] v = v.0
-head_valid l lines last f (g ∷ gs) v = v.0
+use Rattle.reader.proofs.Proper.{head_valid}
 
 -- The file of one band: which files, where they stand, its sheets and its row.
 pub record Held (tape : TapeSet) (l : Layout) (lines : ℕ) (g : Group) (step from : ℕ) (row : List Line) (sheets : Sheets) : Type 0 where
@@ -73,11 +64,11 @@ module _ (tape : TapeSet) (l : Layout) (lines : ℕ) (t : List Group) (one : ℕ
     where
       found : (gs : List Files) → ValidGroups l lines last (f ∷ gs) → StoodFrom tape l t c (f ∷ gs) → ((last c band i0 i : ℕ) → ValidGroups l lines last gs → StoodFrom tape l t c gs → index_of band (all_codes l gs) i0 ≡ Some i → (i0 ≤ i) × Held tape l lines (get_or t (c + (i - i0)) no_group) 1 1 (get_or (all_rows l lines gs) (i - i0) []) (get_or (all_sheets l gs) (i - i0) no_sheets)) → (b : Bool) → cond b (Some i0) (index_of band (all_codes l gs) (i0 + 1)) ≡ Some i → (i0 ≤ i) × Held tape l lines (get_or t (c + (i - i0)) no_group) 1 1 (get_or (all_rows l lines (f ∷ gs)) (i - i0) []) (get_or (all_sheets l (f ∷ gs)) (i - i0) no_sheets)
       found gs v s again true e =
-          let same : i0 ≡ i = some_is e in
+          let same : i0 ≡ i = cc in
           let z : 0 ≡ i - i0 = omega (arith, same) in
           let at : c ≡ c + (i - i0) = omega (arith, same) in
           (omega (arith, same), subst (λ k. Held tape l lines (get_or t k no_group) 1 1 (get_or (all_rows l lines (f ∷ gs)) (i - i0) []) (get_or (all_sheets l (f ∷ gs)) (i - i0) no_sheets)) at (subst (λ k. Held tape l lines (get_or t c no_group) 1 1 (get_or (all_rows l lines (f ∷ gs)) k []) (get_or (all_sheets l (f ∷ gs)) k no_sheets)) z (here f gs last c (head_valid l lines last f gs v) s.0)))
-      found [] v s again false e = none_is e
+      found [] v s again false e = cc
       found (g ∷ gs) v s again false e =
           let p = again (band_of (content l f)) (c + 1) band (i0 + 1) i v.1.1 s.1 e in
           let under = p.0 in
@@ -159,12 +150,12 @@ record Placed {X : Type 0} (bound band i : ℕ) (ps : List ℕ) (h : ℕ → X) 
   is : get_or (map h ps) i none ≡ h place
 
 placed : {X : Type 0} (bound band i0 i : ℕ) (ps : List ℕ) (h : ℕ → X) (none : X) → Below bound ps → index_of band (map (λ k. 4 + k) ps) i0 ≡ Some i → (i0 ≤ i) × Placed bound band (i - i0) ps h none
-placed bound band i0 i [] h none below e = none_is e
+placed bound band i0 i [] h none below e = cc
 placed {X} bound band i0 i (p ∷ ps) h none below e = found (eqb (4 + p) band) refl (λ k. placed bound band (i0 + 1) i ps h none below.1 k) e
   where
     found : (b : Bool) → eqb (4 + p) band ≡ b → (index_of band (map (λ k. 4 + k) ps) (i0 + 1) ≡ Some i → (i0 + 1 ≤ i) × Placed bound band (i - (i0 + 1)) ps h none) → cond b (Some i0) (index_of band (map (λ k. 4 + k) ps) (i0 + 1)) ≡ Some i → (i0 ≤ i) × Placed bound band (i - i0) (p ∷ ps) h none
     found true same again e =
-        let at : i0 ≡ i = some_is e in
+        let at : i0 ≡ i = cc in
         let is = eqb-true (4 + p) band same in
         let z : i - i0 ≡ 0 = omega (arith, at) in
         (omega (arith, at), record { place = p; code = sym is; under = below.0; is = ap (λ k. get_or (map h (p ∷ ps)) k none) z })

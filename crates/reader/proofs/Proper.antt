@@ -155,12 +155,6 @@ sheeted_each size s [] a = tt
 sheeted_each size s (c ∷ cs) a = (a, sheeted_each size s cs a)
 
 -- The groups of a recording.
-interleaved_form : Interleaved ≡ Sequential → ⊥
-interleaved_form e = let u : ◌≡◌ {A = ℕ} 0 1 = cc in omega arith
-
-vidicon_form : Vidicon ≡ Sequential → ⊥
-vidicon_form e = let u : ◌≡◌ {A = ℕ} 0 1 = cc in omega arith
-
 pub head_valid : (l : Layout) (lines last : ℕ) (f : Files) (gs : List Files) → ValidGroups l lines last (f ∷ gs) → ValidFiles l lines last f
 head_valid l lines last f [] v = v.0
 head_valid l lines last f (g ∷ gs) v = v.0
@@ -275,12 +269,12 @@ module _ (l : Layout) (lines : ℕ) where
       subst (λ c. (From 0 c × Bytes c) × (length c ≤ 8)) (sym (append-nil (codes_in (content l f)) ∙ ap codes_in (ap (content_of b (byte (header_record f) 3586)) e))) (((omega arith, tt), (omega (arith, high), tt)), omega arith)
 
   pub codes_of : (form : Form) → l.form ≡ form → (gs : List Files) → ValidGroups l lines 0 gs → (From 0 (all_codes l gs) × Bytes (all_codes l gs)) × (length (all_codes l gs) ≤ 8)
-  codes_of Interleaved e gs v = alone_codes Interleaved e (λ w. interleaved_form w) gs 0 v
+  codes_of Interleaved e gs v = alone_codes Interleaved e (λ w. cc) gs 0 v
   codes_of Sequential e gs v =
       let r = sequential_codes e gs 0 v in
       let few = r.1 in
       ((from_less 0 (0 + 1) (all_codes l gs) (omega arith) r.0.0, r.0.1), omega (arith, few))
-  codes_of Vidicon e gs v = alone_codes Vidicon e (λ w. vidicon_form w) gs 0 v
+  codes_of Vidicon e gs v = alone_codes Vidicon e (λ w. cc) gs 0 v
 
 -- A picture and sheets of a valid recording.
 pub record Proper (p : Picture) (s : List Sheets) : Type 0 where

@@ -22,24 +22,14 @@ use Rattle.reader.specs.Finding.{index_of, codes, file_in, file_at, band_file, l
 use Rattle.reader.specs.declared.places.BandFile.{BandFile}
 use Rattle.reader.specs.declared.places.Spot.{Spot}
 use Rattle.reader.specs.Pictured.{pictured_ident, body_size, line_or, row_line, pictured_line, band_sheet, pictured_sheet, sheet_or, of_kind, no_sheets}
+use Rattle.reader.proofs.Proper.{size_is}
 use Rattle.reader.proofs.Bands.{Held, code_first, there, among}
 use Rattle.reader.proofs.Shelves.{spot_read, sheet_stands}
 use Rattle.reader.proofs.Standing.{line_stands}
 
-size_is : (f : Form) → record_length f - 6 ≡ body_size (sensor_in f)
-size_is Interleaved = refl
-size_is Sequential = refl
-size_is Vidicon = refl
-
-other_form : Interleaved ≡ Sequential → ⊥
-other_form e = let u : ◌≡◌ {A = ℕ} 0 1 = cc in omega arith
-
-vidicon_form : Vidicon ≡ Sequential → ⊥
-vidicon_form e = let u : ◌≡◌ {A = ℕ} 0 1 = cc in omega arith
-
 -- A code is found inside its list.
 pub index_under : (band : ℕ) (cs : List ℕ) (i0 i : ℕ) → index_of band cs i0 ≡ Some i → i < i0 + length cs
-index_under band [] i0 i e = let u : ◌≡◌ {A = ℕ} 0 1 = cc in absurd (omega arith)
+index_under band [] i0 i e = cc
 index_under band (c ∷ cs) i0 i e = found (eqb c band) (index_under band cs (i0 + 1) i) e
   where
     found : (b : Bool) → (index_of band cs (i0 + 1) ≡ Some i → i < i0 + 1 + length cs) → cond b (Some i0) (index_of band cs (i0 + 1)) ≡ Some i → i < i0 + length (c ∷ cs)
@@ -85,11 +75,11 @@ module _ (tape : TapeSet) (l : Layout) (lines : ℕ) (t : List Group) (gs : List
       mixed : (gs : List Files) → ValidGroups l lines 0 gs → StoodFrom tape l t 0 gs → index_of band (all_codes l gs) 0 ≡ Some i → Held tape l lines (get_or t 0 no_group) (stride l) (band - 3) (get_or (all_rows l lines gs) i []) (get_or (all_sheets l gs) i no_sheets)
       mixed [] v st q = absurd v
       mixed (f ∷ []) v st q = among tape l lines 0 f (get_or t 0 no_group) e v.0 st.0 band i q
-      mixed (f ∷ (g ∷ gs)) v st q = absurd (other_form (sym e ∙ v.1.0))
+      mixed (f ∷ (g ∷ gs)) v st q = let other : Interleaved ≡ Sequential = sym e ∙ v.1.0 in cc
   holds Sequential e band i q = holds_one Sequential e (λ b. b - 48) (λ b mask. refl) (ap (λ k. width k (stride l)) e) band i q
   holds Vidicon e band i q =
       let wide = ap (λ k. width k (stride l)) e in
-      let z = only_one Vidicon e (λ w. vidicon_form w) (λ b. b) (λ b mask. refl) wide band i q in
+      let z = only_one Vidicon e (λ w. cc) (λ b. b) (λ b mask. refl) wide band i q in
       subst (λ k. Held tape l lines (get_or t k no_group) 1 1 (get_or (all_rows l lines gs) i []) (get_or (all_sheets l gs) i no_sheets)) z (holds_one Vidicon e (λ b. b) (λ b mask. refl) wide band i q)
 
   -- A line of the band at a place, where it is among them.

@@ -13,6 +13,7 @@ use Rattle.survey.specs.Validity.{body_length, Going, Begun, AllFit, all_lines}
 use Rattle.reader.specs.Bodies.{body_of, body_at}
 use Rattle.reader.specs.Finding.{spot, image_on, image_spot}
 use Rattle.reader.specs.Pictured.{line_or}
+use Rattle.reader.proofs.Proper.{Sized, sized_at, sized_fit}
 
 -- Lines in a row.
 pub nth_lines : (n : ℕ) (xs : List Line) (i : ℕ) → i < length xs → nth (lines_from n xs) i ≡ Some (line_block (n + i) (get_or xs i None))
@@ -120,17 +121,7 @@ going_of ((x ∷ xs) ∷ []) b = tt
 going_of ((x ∷ xs) ∷ (q ∷ ps)) b = b
 
 -- A line that can be read is whole.
-abbrev Sized : Layout → Line → Type 0
-Sized l None = Unit {0}
-Sized l (Some body) = length body ≡ body_length l
-
-sized : (l : Layout) (c : Content) (i j : ℕ) (xs : List Line) → AllFit l c i xs → Sized l (get_or xs j None)
-sized l c i j [] a = tt
-sized l c i zero (Some body ∷ xs) a = a.0.0
-sized l c i zero (None ∷ xs) a = tt
-sized l c i (suc j) (x ∷ xs) a = sized l c (i + 1) j xs a.1
-
-line_read : (l : Layout) (k : ℕ) (x : Line) → 6 ≤ record_length l.form → Sized l x → body_of (record_length l.form) (Some (line_block k x)) ≡ line_or x
+line_read : (l : Layout) (k : ℕ) (x : Line) → 6 ≤ record_length l.form → Sized (body_length l) x → body_of (record_length l.form) (Some (line_block k x)) ≡ line_or x
 line_read l k (Some body) h s = cond-true (eqb (length (record_of k 237 body)) (record_length l.form)) (Ok body) (Err 46) (eq-eqb (length (record_of k 237 body)) (record_length l.form) (omega (arith, s)))
 line_read l k None h s = refl
 
@@ -155,4 +146,4 @@ line_stands tape l f g c k six st begun fits a b = by_parts f.parts refl
         let line_is : get_or (all_lines (p ∷ ps)) (k - 0 - 1) None ≡ x = ap (λ m. get_or (all_lines (p ∷ ps)) m None) index ∙ ap (λ y. get_or (all_lines y) (k - 1) None) e in
         ap (λ o. body_at tape (image_spot g l o) (record_length l.form)) (skipped ∙ s.is)
         ∙ ap (body_of (record_length l.form)) (s.shows ∙ ap (λ y. Some (line_block k y)) line_is)
-        ∙ line_read l k x six (sized l c 0 (k - 1) (all_lines f.parts) fits)
+        ∙ line_read l k x six (sized_at (body_length l) (k - 1) (all_lines f.parts) (sized_fit l c 0 (all_lines f.parts) fits))

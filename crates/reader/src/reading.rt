@@ -45,13 +45,7 @@ impl<D: Deck> Reader<D> {
     pub fn into_deck(self) -> D
         ensures { result ≡ self.deck }
     {
-        let Reader {
-            deck,
-            accepted: _,
-            tally: _,
-            scratch: _,
-        } = self;
-        deck
+        self.deck
     }
 
     // How many lines were delivered.
@@ -104,7 +98,7 @@ impl<D: Deck> Reader<D> {
         if buffer.len() < 18 {
             return Err(CallerFault::Buffer.into());
         }
-        buffer[0..18].copy_from_slice(&accepted.summary.ident);
+        buffer[..18].copy_from_slice(&accepted.summary.ident);
         Ok(18)
     }
 

@@ -1,5 +1,5 @@
 -- What a fetch shows is the block that stands there.
-use Rattle.std.proofs.Common.{◌≡◌, ℕ, ◌/◌, Bool, true, false, cond, ltb, List, ◌++◌, length, drop, is_some, Some, None, Ok, Err, Option, Result, refl, ap, subst, arith}
+use Rattle.std.proofs.Common.{◌≡◌, ℕ, ◌/◌, Bool, true, false, cond, ltb, List, ◌++◌, length, drop, is_some, Some, None, Ok, Err, Option, Result, refl, ap, subst}
 use Rattle.std.proofs.lemmas.List.{take_at}
 use Rattle.deck.specs.Answers.{fetched, filled}
 use Rattle.deck.specs.Tape.{Block, written, mark, bad}
@@ -20,7 +20,7 @@ same_kind j k e = cc
 
 -- A record that fits, and one that does not.
 shown_record : (xs buffer : List ℕ) (kind : Option (Kind ℕ)) (b : Bool) → cond {A = Result (Option (Kind ℕ)) Short} b (Err record {}) (Ok (Some (kinds.Record (length xs)))) ≡ Ok kind → (shown_in kind (cond b buffer (xs ++ drop (length xs) buffer)) ≡ Some (written xs)) × (is_some kind ≡ true)
-shown_record xs buffer kind true e = let z : ◌≡◌ {A = ℕ} 0 1 = cc in absurd (omega arith)
+shown_record xs buffer kind true e = cc
 shown_record xs buffer kind false e =
     let is : Some (kinds.Record (length xs)) ≡ kind = same_kind (Some (kinds.Record (length xs))) kind e in
     subst (λ k. (shown_in k (xs ++ drop (length xs) buffer) ≡ Some (written xs)) × (is_some k ≡ true)) is

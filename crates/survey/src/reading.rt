@@ -26,9 +26,8 @@ fn take<D: Deck>(
     deck: &mut D,
     machine: &mut Machine,
     at: Place,
-    scratch: &mut [u8],
+    scratch: &mut [u8; LONGEST_RECORD],
 ) -> Result<bool, TapeFault>
-    requires room { length scratch.old ≡ 5388 }
     ensures stays { D.meaning deck.new ≡ D.meaning deck.old }
     ensures says { told_step result machine.new ≡ placed at (step machine.old at (look (D.meaning deck.old) at.reel at.block)) }
     ensures more { IfOk result (λ b. b ≡ is_some (look (D.meaning deck.old) at.reel at.block)) }
@@ -52,17 +51,17 @@ fn survey_reel<D: Deck>(
     deck: &mut D,
     machine: &mut Machine,
     reel: u32,
-    scratch: &mut [u8],
+    scratch: &mut [u8; LONGEST_RECORD],
 ) -> Result<(), TapeFault>
-    requires room { length scratch.old ≡ 5388 }
-    requires on_reel { (1 ≤ reel) × (reel ≤ length (D.meaning deck.old)) }
+    requires { (1 ≤ reel) × (reel ≤ length (D.meaning deck.old)) }
     ensures stays { D.meaning deck.new ≡ D.meaning deck.old }
     ensures says { told_step result machine.new ≡ feed_reel machine.old reel 1 (slice_index_or (D.meaning deck.old) (reel - 1) []) }
     ensures stays_steady { Steady machine.old → OnOk result (Steady machine.new) }
 {
-    let mut block = 1;
-    while take(deck, machine, Place { reel, block }, scratch)? {
-        block += 1;
+    for block in 1.. {
+        if !take(deck, machine, Place { reel, block }, scratch)? {
+            break;
+        }
     }
     Ok(())
 }
@@ -76,7 +75,7 @@ pub fn survey<D: Deck>(deck: &mut D) -> Result<Accepted, TapeFault>
     let reels = deck.reels();
     let mut machine = Machine::new(reels);
     let mut scratch = [0; LONGEST_RECORD];
-    for reel in 1..reels + 1 {
+    for reel in 1..=reels {
         survey_reel(deck, &mut machine, reel, &mut scratch)?;
     }
     Ok(machine.accepted())

@@ -36,7 +36,7 @@ module _ {X : Type 0} where
   some_same e = cc
 
   no_some : {Y : Type 0} {x : X} → None ≡ Some x → Y
-  no_some e = let u : ◌≡◌ {A = ℕ} 0 1 = cc in absurd (omega arith)
+  no_some e = cc
 
   -- Lists of at most so many elements that agree in each.
   same_all : (n : ℕ) (xs ys : List X) → length xs ≤ n → length ys ≤ n → ((k : ℕ) → k < n → nth xs k ≡ nth ys k) → xs ≡ ys
@@ -82,8 +82,8 @@ same_told (Ok a) (Ok b) n f g e =
     let left = ap (λ t. a ++ t) (drop_all (length a) (replicate n 0) (omega (arith, f, long))) ∙ append-nil a in
     let right = ap (λ t. b ++ t) (drop_all (length b) (replicate n 0) (omega (arith, g, long))) ∙ append-nil b in
     ap Ok (sym left ∙ buffers ∙ right)
-same_told (Ok a) (Err m) n f g e = let u : ◌≡◌ {A = Told} (delivered (length a)) (refused (caller m)) = ap (λ (r : Reply). r.0) e in let k : ◌≡◌ {A = ℕ} 0 1 = cc in absurd (omega arith)
-same_told (Err m) (Ok b) n f g e = let u : ◌≡◌ {A = Told} (refused (caller m)) (delivered (length b)) = ap (λ (r : Reply). r.0) e in let k : ◌≡◌ {A = ℕ} 0 1 = cc in absurd (omega arith)
+same_told (Ok a) (Err m) n f g e = let u : ◌≡◌ {A = Told} (delivered (length a)) (refused (caller m)) = ap (λ (r : Reply). r.0) e in cc
+same_told (Err m) (Ok b) n f g e = let u : ◌≡◌ {A = Told} (refused (caller m)) (delivered (length b)) = ap (λ (r : Reply). r.0) e in cc
 same_told (Err m) (Err k) n f g e =
     let u : ◌≡◌ {A = Told} (refused (caller m)) (refused (caller k)) = ap (λ (r : Reply). r.0) e in
     let w : caller m ≡ caller k = cc in ap (λ (x : Fault). Err x.0) w
@@ -115,8 +115,8 @@ same_outline p q e =
 
 same_code : (a b : Option ℕ) → told_by code (code_of a) ≡ told_by code (code_of b) → a ≡ b
 same_code (Some a) (Some b) e = let k : a ≡ b = cc in ap Some k
-same_code (Some a) None e = let k : ◌≡◌ {A = ℕ} 0 1 = cc in absurd (omega arith)
-same_code None (Some b) e = let k : ◌≡◌ {A = ℕ} 0 1 = cc in absurd (omega arith)
+same_code (Some a) None e = cc
+same_code None (Some b) e = cc
 same_code None None e = refl
 
 -- A line by its place in the picture.
@@ -131,8 +131,8 @@ line_fills n None h = tt
 
 same_line : (x y : recordings.Line) → line_or x ≡ line_or y → x ≡ y
 same_line (Some a) (Some b) e = let k : a ≡ b = cc in ap Some k
-same_line (Some a) None e = let k : ◌≡◌ {A = ℕ} 0 1 = cc in absurd (omega arith)
-same_line None (Some b) e = let k : ◌≡◌ {A = ℕ} 0 1 = cc in absurd (omega arith)
+same_line (Some a) None e = cc
+same_line None (Some b) e = cc
 same_line None None e = refl
 
 abbrev room_for : Picture → List ℕ
@@ -169,8 +169,8 @@ sheet_room size body = cond-false (ltb size size) (Err 45) (Ok body) (le-ltb siz
 
 same_sheet : (size : ℕ) (a b : Option Body) → sheet_or a size size ≡ sheet_or b size size → a ≡ b
 same_sheet size (Some a) (Some b) e = let w : ◌≡◌ {A = Delivery} (Ok a) (Ok b) = sym (sheet_room size a) ∙ e ∙ sheet_room size b in let k : a ≡ b = cc in ap Some k
-same_sheet size (Some a) None e = let w : ◌≡◌ {A = Delivery} (Ok a) (Err 44) = sym (sheet_room size a) ∙ e in let k : ◌≡◌ {A = ℕ} 0 1 = cc in absurd (omega arith)
-same_sheet size None (Some b) e = let w : ◌≡◌ {A = Delivery} (Err 44) (Ok b) = e ∙ sheet_room size b in let k : ◌≡◌ {A = ℕ} 0 1 = cc in absurd (omega arith)
+same_sheet size (Some a) None e = let w : ◌≡◌ {A = Delivery} (Ok a) (Err 44) = sym (sheet_room size a) ∙ e in cc
+same_sheet size None (Some b) e = let w : ◌≡◌ {A = Delivery} (Err 44) (Ok b) = e ∙ sheet_room size b in cc
 same_sheet size None None e = refl
 
 -- The five calls.

@@ -15,6 +15,7 @@ fn same(first: &[Answered], second: &[Answered]) -> bool
 }
 
 // The same calls once more, with buffers of their own.
+#[tactic(auto, using(crate::proofs::Alike::cloned))]
 fn copies(heap: Global, calls: &[Asked]) -> Result<Vec<Asked>, AllocError>
     ensures { IfOk result (λ v. map asked v.items ≡ map asked calls.now) }
 {

@@ -1,5 +1,4 @@
 use Rattle.std.proofs.Common.{◌≡◌, ◌+◌, ◌≤◌, length}
-use Rattle.listing.specs.Tapes.{readable}
 use Rattle.listing.proofs.Present.{Counted}
 use Rattle.listing.proofs.bands.readable.Given as goal
 

@@ -1,10 +1,6 @@
-use Rattle.std.proofs.Common.{◌≡◌, ◌+◌, ◌-◌, length, string_bytes}
-use Rattle.listing.specs.Blocks.{reel_of}
+use Rattle.std.proofs.Common.{string_bytes}
 use Rattle.listing.proofs.Going.{Going}
 use Rattle.listing.proofs.runs.runs.Given as goal
 
-abbrev pub invariant-loop-kind : goal.invariant-loop-kind
-invariant-loop-kind g l = (g.D.Deck.meaning l.deck ≡ g.D.Deck.meaning l.initial.deck) × Going (reel_of (g.D.Deck.meaning l.initial.deck) l.reel) l.block l.count l.kind (string_bytes l.text)
-
-abbrev pub decreases-loop-kind : goal.decreases-loop-kind
-decreases-loop-kind g l = length (reel_of (g.D.Deck.meaning l.initial.deck) l.reel) + 1 - l.block
+abbrev pub invariant-loop-index : goal.invariant-loop-index
+invariant-loop-index l = Going l.kinds l.index l.count (string_bytes l.text)

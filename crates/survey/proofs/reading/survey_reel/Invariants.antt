@@ -9,11 +9,7 @@ invariant-loop-block g l =
     let meaning = g.D.Deck.meaning in
     let set = meaning l.initial.deck in
     (meaning l.deck ≡ set)
-    × ((length l.scratch ≡ 5388)
     × ((Steady l.initial.machine → Steady l.machine)
-    × ((1 ≤ l.block)
-    × ((l.block ≤ length (get_or set (l.reel - 1) []) + 1)
-    × (feed_reel l.machine l.reel l.block (from_block set l.reel l.block) ≡ feed_reel l.initial.machine l.reel 1 (get_or set (l.reel - 1) []))))))
-
-abbrev pub decreases-loop-block : goal.decreases-loop-block
-decreases-loop-block g l = length (get_or (g.D.Deck.meaning l.initial.deck) (l.reel - 1) []) + 1 - l.block
+    × ((1 ≤ l.block-iterator.start)
+    × ((l.block-iterator.start ≤ length (get_or set (l.reel - 1) []) + 1)
+    × (feed_reel l.machine l.reel l.block-iterator.start (from_block set l.reel l.block-iterator.start) ≡ feed_reel l.initial.machine l.reel 1 (get_or set (l.reel - 1) [])))))

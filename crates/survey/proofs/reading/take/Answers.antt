@@ -10,7 +10,7 @@ pub unreachable-requires : goal.unreachable-requires
 unreachable-requires g c =
     let set = g.D.Deck.meaning c.args.deck.now in
     never_short (look set c.args.at.reel c.args.at.block) _ c.in_default.field-0
-    (λ xs e. omega (arith, c.requires.room, (look_sound set c.args.at.reel c.args.at.block xs (g.met.D.Deck.sound c.args.deck.now).reels e).1))
+    (λ xs e. omega (arith, (look_sound set c.args.at.reel c.args.at.block xs (g.met.D.Deck.sound c.args.deck.now).reels e).1))
     (sym c.in_default.ensures.value)
 
 pub returns-in-Ok-step : goal.returns-in-Ok-step

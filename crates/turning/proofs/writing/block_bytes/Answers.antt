@@ -5,14 +5,14 @@ use Rattle.deck.specs.declared.Kind.TheVariants.{Record}
 use Rattle.turning.proofs.Blocks.{front, not_short}
 use Rattle.turning.proofs.writing.block_bytes.Goals as goal
 
-pub returns-in_ok-record_bytes-in-Ok-Record : goal.returns-in_ok-record_bytes-in-Ok-Record
-returns-in_ok-record_bytes-in-Ok-Record g c =
+pub returns-in_ok-record_bytes-in-Ok-Some-Record : goal.returns-in_ok-record_bytes-in-Ok-Some-Record
+returns-in_ok-record_bytes-in-Ok-Some-Record g c =
     let set = g.D.Deck.meaning c.args.deck.now in
-    let read : fetched (look set c.args.reel c.args.block) (length {A = ℕ} (replicate 5388 0)) ≡ Ok (Record c.in-Ok-Record.length) = search rules in
+    let read : fetched (look set c.args.reel c.args.block) (length {A = ℕ} (replicate 5388 0)) ≡ Ok (Some (Record c.in-Ok-Some-Record.length)) = search rules in
     record {
       stays = c.fetch.ensures.stays;
-      bytes = ap Some c.in_ok-record_bytes-in-Ok-Record.ensures
-          ∙ (front set c.args.reel c.args.block c.in-Ok-Record.length (replicate 5388 0) c.fetch.new.buffer (g.met.D.Deck.sound c.args.deck.now) read c.in-Ok-Record.ensures.bytes).is;
+      bytes = ap Some c.in_ok-record_bytes-in-Ok-Some-Record.ensures
+          ∙ (front set c.args.reel c.args.block c.in-Ok-Some-Record.length (replicate 5388 0) c.fetch.new.buffer (g.met.D.Deck.sound c.args.deck.now) read c.in-Ok-Some-Record.ensures.bytes).is;
     }
 
 pub returns-in-Err : goal.returns-in-Err
