@@ -29,6 +29,8 @@ pub enum Kind<R> {
 pub struct Short;
 
 // A tape deck. Its calls take `&mut self`, since a real deck winds its tape. Reels and blocks are counted from 1.
+// Reel and block are two numbers, and no struct: most callers count blocks, and would make a struct for each call. `stays` is said of each function that is lent
+// a deck: of what a call leaves as it was only a clause can tell, and no type.
 pub trait Deck {
     // The tape set that is on the deck.
     ghost meaning: { Self → TapeSet };
@@ -45,7 +47,12 @@ pub trait Deck {
 
     // The same, and a record's bytes are put at the front of the buffer. Where the buffer is shorter than the record, the
     // answer is `Short`. Nothing else is written.
-    fn fetch(&mut self, reel: u32, block: u32, buffer: &mut [u8]) -> Result<Option<Kind<usize>>, Short>
+    fn fetch(
+        &mut self,
+        reel: u32,
+        block: u32,
+        buffer: &mut [u8],
+    ) -> Result<Option<Kind<usize>>, Short>
         ensures stays { meaning self.new ≡ meaning self.old }
         ensures value { result ≡ fetched (look (meaning self.old) reel block) (length buffer.old) }
         ensures bytes { buffer.new ≡ filled (look (meaning self.old) reel block) buffer.old };

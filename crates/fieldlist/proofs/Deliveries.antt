@@ -1,5 +1,5 @@
 -- What a reader's call delivered into a buffer.
-use Rattle.std.proofs.Common.{◌≡◌, ℕ, zero, suc, ◌+◌, ◌-◌, ◌<◌, ◌≤◌, Bool, true, List, [], ◌∷◌, ◌++◌, length, get_or, take, drop, replicate, Some, Ok, Err, Option, Result, sym, refl, ap, ◌∙◌, append_assoc, append-nil, arith, length-append}
+use Rattle.std.proofs.Common.{◌≡◌, ℕ, zero, suc, ◌+◌, ◌-◌, ◌<◌, ◌≤◌, Bool, true, List, [], ◌∷◌, ◌++◌, length, get_or, take, drop, replicate, Some, Ok, Err, Option, Result, sym, refl, ap, ◌∙◌, append_assoc, append-nil, arith}
 use lib.ListN.{length-replicate}
 use Rattle.std.proofs.lemmas.List.{take_at, take_more}
 use Rattle.std.proofs.lemmas.Bool.{cond-true}
@@ -12,6 +12,7 @@ use Rattle.reader.specs.Refusals.{told_refusal}
 use Rattle.reader.specs.declared.call.Outline.{Outline}
 use Rattle.reader.specs.declared.refusal.Refusal.{Refusal}
 use Rattle.listing.specs.Tapes.{each, present}
+use Rattle.fieldlist.specs.List.{Remembered}
 use Rattle.fieldlist.specs.Measured.{delivered_line, wanted_text}
 use Rattle.fieldlist.specs.Records.{record_of, refused_line, image_lines}
 use Rattle.fieldlist.specs.Sheets.{annotation, annotations_to}
@@ -58,15 +59,13 @@ pub has_line : (subject body : List ℕ) (has : Bool) (d : Delivery) → has ≡
 has_line subject body has d h e =
     sym (ap (delivered_line subject has) e ∙ cond-true has (image_lines subject (record_of 237 body)) (refused_line subject 48) h)
 
--- One record more of a band, while the set and what is remembered stay.
-pub one_more : (set now : TapeSet) (m last : Option Accepted) (code index : ℕ) (text lines after : List ℕ) → 1 ≤ index → now ≡ set → last ≡ m
-    → text ≡ annotations_to set m (index - 1) code → lines ≡ annotation now last code index → after ≡ text ++ lines → after ≡ annotations_to set m index code
-one_more set now m last code zero text lines after some stays same so_far e a = absurd (omega arith)
-one_more set now m last code (suc n) text lines after some stays same so_far e a =
+-- One record more of a band.
+pub one_more : (set : TapeSet) (m : Option Accepted) (code index : ℕ) (text lines after : List ℕ) → 1 ≤ index
+    → text ≡ annotations_to set m (index - 1) code → lines ≡ annotation set m code index → after ≡ text ++ lines → after ≡ annotations_to set m index code
+one_more set m code zero text lines after some so_far e a = absurd (omega arith)
+one_more set m code (suc n) text lines after some so_far e a =
     let back : suc n - 1 ≡ n = omega arith in
-    a
-    ∙ ap (λ t. t ++ lines) (so_far ∙ ap (λ k. annotations_to set m k code) back)
-    ∙ ap (λ t. annotations_to set m n code ++ t) (e ∙ ap (λ s. annotation s last code (suc n)) stays ∙ ap (λ b. annotation set b code (suc n)) same)
+    a ∙ ap (λ t. t ++ lines) (so_far ∙ ap (λ k. annotations_to set m k code) back) ∙ ap (λ t. annotations_to set m n code ++ t) e
 
 each_push : (text : ℕ → List ℕ) (cs : List ℕ) (c : ℕ) → each text (cs ++ c ∷ []) ≡ each text cs ++ text c
 each_push text [] c = append-nil (text c)
@@ -88,10 +87,10 @@ survey_known set wanted (Ok a) r o m e ok is =
 survey_known set wanted (Err f) r o m e ok is = let z : ◌≡◌ {A = ℕ} 0 1 = cc in absurd (omega arith)
 
 -- Its two parts, while the set and what is remembered stay.
-pub both_parts : (set after last : TapeSet) (wanted : Option Wanted) (s : Result Accepted Fault) (r : Result Outline Refusal) (o : Outline) (m n : Option Accepted) (count : ℕ) (first second : List ℕ)
-    → told r ≡ survey_answer s → r ≡ Ok o → m ≡ accepted_by s → after ≡ set → last ≡ after → n ≡ m → count ≡ annotations o.correction
-    → first ≡ each (annotations_to after m count) (present m) → second ≡ wanted_text last n o wanted → first ++ second ≡ survey_text set wanted s
-both_parts set after last wanted s r o m n count first second e ok is stays more same many f g =
+pub both_parts : (set after : TapeSet) (wanted : Option Wanted) (s : Result Accepted Fault) (r : Result Outline Refusal) (o : Outline) (m : Option Accepted) (last : Remembered) (count : ℕ) (first second : List ℕ)
+    → told r ≡ survey_answer s → r ≡ Ok o → m ≡ accepted_by s → after ≡ set → last ≡ record { set = after; accepted = m } → count ≡ annotations o.correction
+    → first ≡ each (annotations_to after m count) (present m) → second ≡ wanted_text last.set last.accepted o wanted → first ++ second ≡ survey_text set wanted s
+both_parts set after wanted s r o m last count first second e ok is stays same many f g =
     ap (λ t. t ++ second) (f ∙ ap (λ x. each (annotations_to x m count) (present m)) stays ∙ ap (λ k. each (annotations_to set m k) (present m)) many)
-    ∙ ap (λ t. each (annotations_to set m (annotations o.correction)) (present m) ++ t) (g ∙ ap (λ x. wanted_text x n o wanted) (more ∙ stays) ∙ ap (λ a. wanted_text set a o wanted) same)
+    ∙ ap (λ t. each (annotations_to set m (annotations o.correction)) (present m) ++ t) (g ∙ ap (λ (v : Remembered). wanted_text v.set v.accepted o wanted) same ∙ ap (λ x. wanted_text x m o wanted) stays)
     ∙ survey_known set wanted s r o m e ok is

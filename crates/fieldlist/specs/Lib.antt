@@ -1,6 +1,7 @@
 pub mod Shown
 pub mod Values
 pub mod Records
+pub mod List
 pub mod Sheets
 pub mod Measured
 pub mod Tapes

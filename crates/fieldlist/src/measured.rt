@@ -28,7 +28,7 @@ fn is_measured(sensor: Sensor, correction: Correction) -> bool
 impl<D: Deck> FieldList<D> {
     // The fields of a line of a set that has this outline.
     fn line(&mut self, outline: Outline, wanted: Wanted) -> Result<String, AllocError>
-        ensures { IfOk result (λ t. string_bytes t ≡ line_text (D.meaning self.old.reader.deck) self.old.reader.accepted outline wanted) }
+        ensures { IfOk result (λ t. string_bytes t ≡ line_text self.old.set self.old.accepted outline wanted) }
     {
         let heap = self.heap;
         let line = wanted.line;
@@ -57,7 +57,7 @@ impl<D: Deck> FieldList<D> {
         outline: Outline,
         wanted: Option<Wanted>,
     ) -> Result<String, AllocError>
-        ensures { IfOk result (λ t. string_bytes t ≡ wanted_text (D.meaning self.old.reader.deck) self.old.reader.accepted outline wanted) }
+        ensures { IfOk result (λ t. string_bytes t ≡ wanted_text self.old.set self.old.accepted outline wanted) }
     {
         match wanted {
             Some(wanted) => self.line(outline, wanted),

@@ -17,9 +17,8 @@ const ANNOTATION_SHEET: u8 = 3;
 impl<D: Deck> FieldList<D> {
     // An annotation record of a band.
     fn annotation(&mut self, code: u8, index: u32) -> Result<String, AllocError>
-        ensures stays { D.meaning self.new.reader.deck ≡ D.meaning self.old.reader.deck }
-        ensures remembers { self.new.reader.accepted ≡ self.old.reader.accepted }
-        ensures text { IfOk result (λ t. string_bytes t ≡ annotation (D.meaning self.old.reader.deck) self.old.reader.accepted code index) }
+        ensures stays { self.new ≡ self.old }
+        ensures text { IfOk result (λ t. string_bytes t ≡ annotation self.old.set self.old.accepted code index) }
     {
         let heap = self.heap;
         let band = band_name(heap, code)?;
@@ -40,9 +39,8 @@ impl<D: Deck> FieldList<D> {
 
     // So many annotation records of a band.
     fn band_annotations(&mut self, code: u8, count: u32) -> Result<String, AllocError>
-        ensures stays { D.meaning self.new.reader.deck ≡ D.meaning self.old.reader.deck }
-        ensures remembers { self.new.reader.accepted ≡ self.old.reader.accepted }
-        ensures text { IfOk result (λ t. string_bytes t ≡ annotations_to (D.meaning self.old.reader.deck) self.old.reader.accepted count code) }
+        ensures stays { self.new ≡ self.old }
+        ensures text { IfOk result (λ t. string_bytes t ≡ annotations_to self.old.set self.old.accepted count code) }
     {
         let mut text = String::new(self.heap);
         for index in 1..=count {
@@ -54,9 +52,8 @@ impl<D: Deck> FieldList<D> {
 
     // So many annotation records of each band present.
     pub(crate) fn annotations(&mut self, count: u32) -> Result<String, AllocError>
-        ensures stays { D.meaning self.new.reader.deck ≡ D.meaning self.old.reader.deck }
-        ensures remembers { self.new.reader.accepted ≡ self.old.reader.accepted }
-        ensures text { IfOk result (λ t. string_bytes t ≡ each (annotations_to (D.meaning self.old.reader.deck) self.old.reader.accepted count) (present self.old.reader.accepted)) }
+        ensures stays { self.new ≡ self.old }
+        ensures text { IfOk result (λ t. string_bytes t ≡ each (annotations_to self.old.set self.old.accepted count) (present self.old.accepted)) }
     {
         let mut text = String::new(self.heap);
         let bands = self.reader.bands();

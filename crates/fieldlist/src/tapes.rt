@@ -5,7 +5,7 @@ ghost use Rattle.fieldlist.specs.Tapes.{tape_text, strip_text};
 use super::list::FieldList;
 use super::measured::Wanted;
 use deck::Deck;
-use image::Strip;
+use image::{Image, Strip};
 use listing::{fault_line, refusal};
 use reader::Reader;
 use std::alloc::{AllocError, Global};
@@ -21,12 +21,10 @@ pub fn tape_fields<D: Deck + Drop>(
 ) -> Result<String, AllocError>
     ensures { IfOk result (λ t. string_bytes t ≡ tape_text (D.meaning deck) wanted) }
 {
-    let mut list = FieldList {
-        heap,
-        reader: Reader::new(deck),
-    };
-    match list.reader.survey() {
+    let mut reader = Reader::new(deck);
+    match reader.survey() {
         Ok(outline) => {
+            let mut list = FieldList { heap, reader };
             let annotations = list.annotations(outline.correction.annotations())?;
             let line = list.wanted_line(outline, wanted)?;
             format!(in heap; "{annotations}{line}")

@@ -17,7 +17,7 @@ pub enum Processing {
     Relative,
 }
 
-// A letter tells it.
+// From the letter in byte 82.
 impl TryFrom<char> for Processing {
     type Error = FieldFault;
 
@@ -47,7 +47,7 @@ impl fmt::Display for Processing {
     }
 }
 
-// An annotation record, or what is taken for one.
+// An annotation record, or what is taken for one. It is not one generic struct with `ImageRecord`: a marker type and a trait for the check would be longer than the two lines that both share.
 #[derive(Clone, Copy)]
 pub struct Annotation<'a> {
     record: &'a [u8],

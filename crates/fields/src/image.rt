@@ -17,7 +17,7 @@ pub enum Quality {
     Q3,
 }
 
-// An octal code tells it.
+// From the code in byte 3563.
 impl TryFrom<u8> for Quality {
     type Error = FieldFault;
 

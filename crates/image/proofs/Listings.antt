@@ -1,5 +1,5 @@
 -- What lies at the entry of a block of an indexed image.
-use Rattle.std.specs.Prelude.{◌≡◌, ℕ, ◌+◌, ◌-◌, ◌*◌, ◌<◌, ◌≤◌, true, List, [], ◌++◌, length, get_or, take, drop, is_ok, Some, None, nat_lt, slice_index_or, refl}
+use Rattle.std.specs.Prelude.{◌≡◌, ℕ, ◌+◌, ◌-◌, ◌*◌, ◌<◌, ◌≤◌, true, List, [], ◌++◌, length, get_or, take, drop, is_ok, Some, None, Ok, Err, nat_lt, slice_index_or, refl}
 use Rattle.std.proofs.Common.{sym, ap, subst, ◌∙◌, arith, length-append, vec_items}
 use Rattle.std.proofs.lemmas.List.{get_or_append_left, get_or-append-add}
 use Rattle.std.proofs.lemmas.Bool.{le-ltb, cond-false}
@@ -7,11 +7,12 @@ use Rattle.deck.specs.Tape.{Block, written, mark, bad, Reel, TapeSet, Sound, Sou
 use Rattle.deck.specs.Words.{value}
 use Rattle.image.specs.Cursor.{stored_at}
 use Rattle.image.specs.Found.{lent, lent_if, listed_at}
-use Rattle.image.specs.Indexed.{blocks, first_entry, header, Entry, Encodes, verdict, meant}
-use Rattle.image.specs.Opened.{indexed_set}
+use Rattle.image.specs.Indexed.{blocks, first_entry, header, Entry, Encodes, passed, verdict, meant}
+use Rattle.image.specs.Opened.{Exactly, indexed_set}
 use Rattle.image.specs.Stored.{stored_as}
 use Rattle.image.specs.declared.indexed.Indexed.{Indexed}
-use Rattle.image.proofs.Indices.{judged}
+use Rattle.image.proofs.Indices.{judged, exactly_judged}
+use Rattle.image.proofs.Rows.{passed_ok, passed_err}
 use Rattle.image.specs.Stored.{is_set}
 use Rattle.deck.proofs.Looks.{block_sound, reel_sound}
 use Rattle.image.proofs.Places.{joined_at, stored_there, looked}
@@ -73,3 +74,10 @@ listed_there i reel block r b reels before hr hb on_reel on_block many is =
     let k = kind_whole xs head at it sound lies in
     let found = ap (lent_if xs (value (drop at xs))) k.1 ∙ listed_as xs head at it lies in
     record { whole = k.0; finds = found ∙ sym (looked set reel block r b hr hb on_reel on_block) }
+
+-- What opening says of an image that is not refused, and of one that is.
+pub exactly_passed : (xs : List ℕ) → passed (verdict xs) ≡ Ok tt → Exactly (Encodes xs) (Ok (meant xs))
+exactly_passed xs e = subst (Exactly (Encodes xs)) (is_set (verdict xs) (passed_ok (verdict xs) e)) (exactly_judged xs)
+
+pub exactly_stopped : (xs : List ℕ) (e : ℕ × ℕ) → passed (verdict xs) ≡ Err e → Exactly (Encodes xs) (Err e)
+exactly_stopped xs e h = subst (Exactly (Encodes xs)) (passed_err (verdict xs) e h) (exactly_judged xs)

@@ -1,5 +1,5 @@
 -- Results read one behind the other.
-use Rattle.std.specs.Prelude.{◌≡◌, ℕ, zero, suc, ◌+◌, ◌-◌, ◌*◌, ◌<◌, List, [], ◌∷◌, length, Ok, Err, slice_index_or, refl}
+use Rattle.std.specs.Prelude.{◌≡◌, ℕ, zero, suc, ◌+◌, ◌-◌, ◌*◌, ◌<◌, List, [], ◌∷◌, length, true, is_ok, Ok, Err, slice_index_or, refl}
 use Rattle.std.proofs.Common.{sym, ap, ◌∙◌, mul-suc, mul-zero, add-one, arith}
 use Rattle.image.specs.Stored.{Verdict}
 use Rattle.image.specs.Indexed.{and_then, passed, row}
@@ -8,6 +8,10 @@ use Rattle.image.specs.Indexed.{and_then, passed, row}
 pub and_then_ok : {X Y : Type 0} (v : Verdict X) (f : X → Verdict Y) (y : Y) → and_then v f ≡ Ok y → (x : X) × (v ≡ Ok x) × (f x ≡ Ok y)
 and_then_ok (Ok x) f y e = (x, refl, e)
 and_then_ok (Err z) f y e = let n : ◌≡◌ {A = ℕ} 0 1 = cc in absurd (omega arith)
+
+pub passed_ok : {X : Type 0} (v : Verdict X) → passed v ≡ Ok tt → is_ok v ≡ true
+passed_ok (Ok x) e = refl
+passed_ok (Err z) e = let n : ◌≡◌ {A = ℕ} 0 1 = cc in absurd (omega arith)
 
 -- And what refuses without its result refuses.
 pub passed_err : {X : Type 0} (v : Verdict X) (e : ℕ × ℕ) → passed v ≡ Err e → v ≡ Err e

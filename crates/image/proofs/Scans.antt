@@ -5,7 +5,7 @@ use Rattle.std.proofs.lemmas.List.{drop-drop}
 use Rattle.deck.specs.Tape.{Reel, TapeSet}
 use Rattle.image.specs.Stored.{Verdict, set_of, block}
 use Rattle.image.specs.Strip.{block_bytes, encoded, size, next, follow, judge, verdict, meant}
-use Rattle.image.specs.Chart.{span, spans}
+use Rattle.image.specs.Chart.{span, spans, Charts}
 use Rattle.image.specs.Scan.{Scanned}
 use Rattle.image.specs.declared.chart.Span.{Span}
 use Rattle.deck.specs.declared.Kind.{Kind}
@@ -27,7 +27,7 @@ pub record Going (xs : List ℕ) (chart : List Span) (start blocks at : ℕ) : T
   pub begins : start ≡ length (encoded reels)
   pub here : at ≡ start + length (flat_map block_bytes reel)
   pub counted : blocks ≡ length reel
-  pub charted : chart ≡ spans 0 reels
+  pub charted : Charts reels chart
 
 pub going_start : (xs : List ℕ) → Going xs [] 0 0 0
 going_start xs = record {

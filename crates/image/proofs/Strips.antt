@@ -59,7 +59,6 @@ kept at blocks (Some s) xs t e =
 
 -- What is known where a block stands.
 pub record Held (reels blocks : ℕ) (xs : List ℕ) (s : Kind ℕ) : Type 0 where
-  pub reels_left : reels < 9
   pub blocks_left : blocks < 65535
   pub whole : 4 ≤ length xs
   pub kind : stored (value xs) ≡ Some s
@@ -73,7 +72,6 @@ held at reels blocks xs s e =
     let word = other (value xs == 4294967294) (Ok (Some ReelEnds)) (check_kind at blocks (stored (value xs)) xs) (Some (Holds s)) (λ h. let z : ◌≡◌ {A = ℕ} 0 1 = cc in omega arith) long.1 in
     let k = kept at blocks (stored (value xs)) xs s word.1 in
     record {
-      reels_left = leb-false _ _ left.0;
       blocks_left = k.0;
       whole = ltb-false _ _ long.0;
       kind = k.1;

@@ -5,7 +5,7 @@ ghost use Rattle.image.specs.Strip.{next, check_closed};
 
 use super::refusal::{Cause, Refusal, refused};
 use super::stored::stored_by;
-use super::word::word_at;
+use super::word::{whole_word, word_at};
 use deck::{Kind, MOST_BLOCKS, MOST_REELS};
 
 // The word behind a reel's last block.
@@ -19,6 +19,7 @@ pub enum Next {
 }
 
 // Whether a record's bytes and its closing word fit, and whether that word is equal.
+#[tactic(auto, using(std::proofs::lemmas::List::places, std::proofs::lemmas::Bool::Decides::nat_tests))]
 fn closed(bytes: &[u8], at: usize, block: Kind<usize>) -> Result<Option<Next>, Refusal>
     requires within { at ≤ length bytes.now }
     requires short { Short block }
@@ -37,6 +38,7 @@ fn closed(bytes: &[u8], at: usize, block: Kind<usize>) -> Result<Option<Next>, R
 
 // What stands at a place of a strip, behind so many whole reels and so many blocks of the next, and none at its end; or the first check that
 // fails there.
+#[tactic(auto, using(std::proofs::lemmas::List::places, std::proofs::lemmas::Bool::Decides::nat_tests))]
 pub(crate) fn next_word(
     bytes: &[u8],
     at: usize,
@@ -51,9 +53,7 @@ pub(crate) fn next_word(
     if reels >= MOST_REELS {
         return refused(Cause::OverLimit, at);
     }
-    let Some(word) = word_at(bytes, at) else {
-        return refused(Cause::CutShort, at);
-    };
+    let word = whole_word(bytes, at)?;
     if word == REEL_END {
         return Ok(Some(Next::ReelEnds));
     }

@@ -29,5 +29,6 @@ pub trait Image: Deck {
     fn into_bytes(self) -> Vec<u8>
         ensures { result ≡ source self };
 
+    // An image means what its bytes are judged to be.
     ghost means: { (i : Self) → judged (vec_items (source i)) ≡ Ok (Self.meaning i) };
 }

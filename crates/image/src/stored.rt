@@ -4,9 +4,10 @@ ghost use Rattle.image.specs.Stored.{stored};
 
 use deck::Kind;
 
-// The kind word of a tape mark, and that of a bad block. Any other kind word is a record's length.
+// The kind word of a tape mark.
 pub const MARK: u32 = 0;
 
+// The kind word of a bad block. Any other kind word is a record's length.
 pub const BAD: u32 = 4294967295;
 
 // What a kind word says, or none where it is no kind word.

@@ -1,7 +1,7 @@
 // The strip: a tape set written from its first block to its last.
 ghost use Rattle.std.specs.Prelude.{◌≡◌, ◌<◌, ◌≤◌, true, [], length, is_ok, slice_index_or};
 ghost use Rattle.deck.specs.Tape.{Sound};
-ghost use Rattle.image.specs.Chart.{spans};
+ghost use Rattle.image.specs.Chart.{Charts};
 ghost use Rattle.image.specs.Sole.{sole};
 ghost use Rattle.image.specs.Strip.{encoded, verdict, meant, place};
 
@@ -22,7 +22,7 @@ pub struct Strip {
     ghost judged: { is_ok (verdict bytes.items) ≡ true },
     ghost sound: { Sound (meant bytes.items) } by { sole (meant bytes.items) },
     ghost spells: { encoded (meant bytes.items) ≡ bytes.items },
-    ghost charted: { chart.items ≡ spans 0 (meant bytes.items) },
+    ghost charted: { Charts (meant bytes.items) chart.items },
     ghost on_reel: { cursor.reel < length (meant bytes.items) },
     ghost on_block: { cursor.block ≤ length (slice_index_or (meant bytes.items) cursor.reel []) },
     ghost here: { cursor.at ≡ place (meant bytes.items) cursor.reel cursor.block },

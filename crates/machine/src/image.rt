@@ -11,6 +11,7 @@ const MOST_LINES: u32 = 8192;
 
 // Whether every byte of a body is zero. A loop and no `all`: the bits of all are gathered and asked for once, which is quicker than to ask at each
 // byte.
+#[tactic(auto, using(crate::proofs::Zeros::zero_more, crate::proofs::Zeros::zero_all))]
 fn all_zero(body: &[u8]) -> bool
     ensures { result ≡ all_zero body.now }
 {
@@ -22,6 +23,7 @@ fn all_zero(body: &[u8]) -> bool
 }
 
 // The same of a record's body, which begins with its seventh byte.
+#[tactic(auto, using(std::proofs::lemmas::List::take_rest))]
 fn zero_body(bytes: &[u8]) -> bool
     requires { 6 ≤ length bytes.now }
     ensures { result ≡ all_zero (drop 6 bytes.now) }

@@ -78,9 +78,12 @@ answer set m (calls.Sheet band kind index) buffer =
     record { said = told_by delivered (told_delivery d); buffer = buffer_after d buffer; memory = m }
 answer set m calls.Tally buffer = record { said = counted m.tally; buffer = buffer; memory = m }
 
+abbrev pub remembering : Option Accepted → ℕ → Memory
+remembering a t = record { accepted = a; tally = t }
+
 -- What a reader remembers, and the outcome of a call that it has answered.
 abbrev pub memory_of : {D : Type 0} → Reader D → Memory
-memory_of r = record { accepted = r.accepted; tally = r.tally }
+memory_of r = remembering r.accepted r.tally
 
 abbrev pub outcome_of : {D : Type 0} → Result Answer Refusal → List ℕ → Reader D → Outcome
 outcome_of result buffer r = record { said = told_answer result; buffer = buffer; memory = memory_of r }

@@ -1,4 +1,9 @@
 // The calls of a reader, and what they answer.
+ghost use Rattle.std.specs.Prelude.{◌≡◌, ◌≤◌};
+ghost use Rattle.reader.specs.Bodies.{outline};
+
+use super::places::codes;
+use machine::Accepted;
 use records::{Correction, Sensor};
 
 // What a survey answers of an accepted set.
@@ -11,6 +16,21 @@ pub struct Outline {
     pub bands: usize,
     // how many lines each has
     pub lines: u32,
+}
+
+impl From<Accepted> for Outline {
+    ghost from_gives = { λ a o. (o ≡ outline a) × (o.bands ≤ 5) };
+
+    fn from(accepted: Accepted) -> Outline {
+        let summary = accepted.summary;
+        Outline {
+            sensor: summary.layout.form.sensor(),
+            mission: summary.layout.mission,
+            correction: summary.layout.correction,
+            bands: codes(&summary.bands).len(),
+            lines: summary.lines,
+        }
+    }
 }
 
 // A call, with its arguments. Band codes are 4 to 8 or a vidicon's letter, sheet kinds 1 to 4; k, lines and indexes count from 1.

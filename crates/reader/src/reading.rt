@@ -2,7 +2,7 @@
 ghost use Rattle.std.specs.Prelude.{◌≡◌, ◌≤◌, length, IfOk, None};
 ghost use Rattle.deck.specs.Tape.{from_one};
 ghost use Rattle.survey.specs.Surveys.{surveyed};
-ghost use Rattle.reader.specs.Bodies.{told, told_delivery, buffer_after, line_answer, sheet_answer, ident_answer, band_answer, survey_answer, accepted_by, bands_of, outline, raised};
+ghost use Rattle.reader.specs.Bodies.{told, told_delivery, buffer_after, line_answer, sheet_answer, ident_answer, band_answer, survey_answer, accepted_by, bands_of, raised};
 
 use super::body::body;
 use super::call::Outline;
@@ -20,6 +20,7 @@ pub const LONGEST_BODY: usize = LONGEST_RECORD - 6;
 pub const MOST_TALLIED: u64 = 9223372036854775807;
 
 // A reader owns its deck. It remembers what its last survey accepted, and how many lines it has delivered.
+// No model: the clauses and proofs of five crates name its deck, what is accepted and its tally; a model would hide the scratch buffer alone.
 #[derive(Drop)]
 pub struct Reader<D> {
     deck: D,
@@ -64,7 +65,7 @@ impl<D: Deck> Reader<D> {
     {
         let surveyed = survey(&mut self.deck);
         self.accepted = surveyed.ok();
-        Ok(outline(&surveyed?))
+        Ok(surveyed?.into())
     }
 
     // The bands that are present: none where no survey has accepted the set.
@@ -81,6 +82,7 @@ impl<D: Deck> Reader<D> {
     pub fn band(&self, k: u32) -> Result<u8, Refusal>
         ensures { told result ≡ band_answer self.now.accepted k }
     {
+        // A rule of the project, here and below: where no survey has accepted the set, 41 comes before anything else.
         let Some(accepted) = self.accepted else {
             return Err(CallerFault::NotAccepted.into());
         };
@@ -125,7 +127,8 @@ impl<D: Deck> Reader<D> {
         Ok(length)
     }
 
-    // Puts the body of a sheet of a band into a buffer: kind 1 the header, 2 an ancillary, 3 an annotation, 4 a trailer record.
+    // Puts the body of a sheet of a band into a buffer: kind 1 the header, 2 an ancillary, 3 an annotation, 4 a trailer record. The kind is a number,
+    // since each is answered: 44 for any other.
     pub fn sheet(
         &mut self,
         band: u8,
@@ -153,18 +156,4 @@ fn code_at(codes: &[u8], k: u32) -> Option<u8>
     ensures { result ≡ from_one codes.now k }
 {
     codes.get((k as usize).checked_sub(1)?).copied()
-}
-
-fn outline(accepted: &Accepted) -> Outline
-    ensures is { result ≡ outline accepted.now }
-    ensures few { result.bands ≤ 5 }
-{
-    let layout = accepted.summary.layout;
-    Outline {
-        sensor: layout.form.sensor(),
-        mission: layout.mission,
-        correction: layout.correction,
-        bands: codes(&accepted.summary.bands).len(),
-        lines: accepted.summary.lines,
-    }
 }

@@ -9,21 +9,15 @@ use Rattle.survey.specs.Surveys.{Fault, fault_at, placed, then, feed_reel, feed,
 
 -- A step that fails, fails at its own place.
 placed_at : (reel block : ℕ) (s : Result Machine ℕ) (f : Fault) → placed (place_of reel block) s ≡ Err f → (fault_reel f ≡ reel) × (fault_block f ≡ block)
-placed_at reel block (Ok m) f e = let u : ◌≡◌ {A = ℕ} 0 1 = cc in absurd (omega arith)
+placed_at reel block (Ok m) f e = cc
 placed_at reel block (Err n) f e = let is : f ≡ fault_at n (place_of reel block) = cc in (ap fault_reel is, ap fault_block is)
-
-no_element : {X Y : Type 0} {x : X} → None ≡ Some x → Y
-no_element e = let u : ◌≡◌ {A = ℕ} 0 1 = cc in absurd (omega arith)
-
-same_element : {X : Type 0} {x y : X} → Some x ≡ Some y → x ≡ y
-same_element e = cc
 
 -- Lists with the same elements.
 same_all : {X : Type 0} (xs ys : List X) → ((k : ℕ) → nth xs k ≡ nth ys k) → xs ≡ ys
 same_all [] [] h = refl
-same_all [] (y ∷ ys) h = no_element (h 0)
-same_all (x ∷ xs) [] h = no_element (sym (h 0))
-same_all (x ∷ xs) (y ∷ ys) h = ap (λ k. k ∷ xs) (same_element (h 0)) ∙ ap (λ k. y ∷ k) (same_all xs ys (λ k. h (suc k)))
+same_all [] (y ∷ ys) h = let e = h 0 in cc
+same_all (x ∷ xs) [] h = let e = h 0 in cc
+same_all (x ∷ xs) (y ∷ ys) h = let e = h 0 in let rest = same_all xs ys (λ k. h (suc k)) in cc
 
 -- Where a fault of a reel is.
 module _ (f : Fault) where
@@ -38,11 +32,12 @@ module _ (f : Fault) where
   -- The same blocks up to the fault give the same fault, on one reel.
   on_reel : (bs cs : Reel) (m : Machine) (reel block : ℕ) → feed_reel m reel block bs ≡ Err f → ((k : ℕ) → block + k ≤ fault_block f → nth bs k ≡ nth cs k) → feed_reel m reel block cs ≡ Err f
   on_reel [] [] m reel block e h = e
-  on_reel [] (c ∷ cs) m reel block e h = let u = (placed_at reel block (step m (place_of reel block) None) f e).1 in no_element (h 0 (omega (arith, u)))
-  on_reel (b ∷ bs) [] m reel block e h = let u = (place_on (b ∷ bs) m reel block e).1 in no_element (sym (h 0 (omega (arith, u))))
+  on_reel [] (c ∷ cs) m reel block e h = let u = (placed_at reel block (step m (place_of reel block) None) f e).1 in let o = h 0 (omega (arith, u)) in cc
+  on_reel (b ∷ bs) [] m reel block e h = let u = (place_on (b ∷ bs) m reel block e).1 in let o = h 0 (omega (arith, u)) in cc
   on_reel (b ∷ bs) (c ∷ cs) m reel block e h =
       let u = (place_on (b ∷ bs) m reel block e).1 in
-      let same : b ≡ c = same_element (h 0 (omega (arith, u))) in
+      let o = h 0 (omega (arith, u)) in
+      let same : b ≡ c = cc in
       ap (λ k. then (placed (place_of reel block) (step m (place_of reel block) (Some k))) (λ n. feed_reel n reel (block + 1) cs)) (sym same)
       ∙ follow (λ n. on_reel bs cs n reel (block + 1)) (step m (place_of reel block) (Some b)) e
     where
@@ -52,7 +47,7 @@ module _ (f : Fault) where
 
   -- Where a fault of several reels is.
   reel_of : (rs : TapeSet) (m : Machine) (reel : ℕ) → feed m reel rs ≡ Err f → reel ≤ fault_reel f
-  reel_of [] m reel e = let u : ◌≡◌ {A = ℕ} 0 1 = cc in absurd (omega arith)
+  reel_of [] m reel e = cc
   reel_of (r ∷ rs) m reel e = follow (λ n. reel_of rs n (reel + 1)) (feed_reel m reel 1 r) refl e
     where
       follow : ((n : Machine) → feed n (reel + 1) rs ≡ Err f → reel + 1 ≤ fault_reel f) → (o : Result Machine Fault) → feed_reel m reel 1 r ≡ o → then o (λ n. feed n (reel + 1) rs) ≡ Err f → reel ≤ fault_reel f
@@ -60,7 +55,7 @@ module _ (f : Fault) where
       follow again (Err g) p q = let u = (place_on r m reel 1 (p ∙ q)).0 in omega (arith, u)
 
   over_reels : (rs us : TapeSet) (m : Machine) (reel : ℕ) → feed m reel rs ≡ Err f → length rs ≡ length us → ((j k : ℕ) → reel + j < fault_reel f → look_on (nth rs j) k ≡ look_on (nth us j) k) → ((j k : ℕ) → reel + j ≡ fault_reel f → k ≤ fault_block f → look_on (nth rs j) k ≡ look_on (nth us j) k) → feed m reel us ≡ Err f
-  over_reels [] us m reel e long before upon = let u : ◌≡◌ {A = ℕ} 0 1 = cc in absurd (omega arith)
+  over_reels [] us m reel e long before upon = cc
   over_reels (r ∷ rs) [] m reel e long before upon = absurd (omega (arith, long))
   over_reels (r ∷ rs) (u ∷ us) m reel e long before upon = follow (λ n. over_reels rs us n (reel + 1)) (feed_reel m reel 1 r) refl e
     where
@@ -79,7 +74,7 @@ module _ (f : Fault) where
 
 -- The fault of a survey.
 fed : (o : Result Machine Fault) (f : Fault) → then o (λ m. Ok (accepted m)) ≡ Err f → o ≡ Err f
-fed (Ok m) f e = let u : ◌≡◌ {A = ℕ} 0 1 = cc in absurd (omega arith)
+fed (Ok m) f e = cc
 fed (Err g) f e = let is : g ≡ f = cc in ap Err is
 
 pub final : (a b : TapeSet) (f : Fault) → surveyed a ≡ Err f → length a ≡ length b → SameThrough (fault_reel f) (fault_block f) a b → surveyed b ≡ Err f

@@ -1,6 +1,6 @@
 -- The machine over the files of a group.
 use Rattle.std.proofs.Common.{◌≡◌, ℕ, zero, suc, ◌+◌, ◌-◌, ◌*◌, ◌%◌, ◌<◌, ◌≤◌, Bool, true, false, cond, ◌&&◌, ◌||◌, eqb, ltb, leb, ◌⊎◌, List, [], ◌∷◌, ◌++◌, length, get_or, set, replicate, Some, Ok, Err, Result, sym, refl, ap, ◌∙◌, subst, ⊎_elim, append_assoc, arith}
-use Rattle.std.proofs.lemmas.Bool.{lt-ltb, le-ltb, le-leb, lt-leb, eq-eqb, ltb-true, leb-true, eqb-true, and_parts, or_cases, cond-true, cond-false}
+use Rattle.std.proofs.lemmas.Bool.{lt-ltb, le-ltb, le-leb, lt-leb, eq-eqb, ltb-true, leb-true, eqb-true, and_parts, or_cases, cond-true, cond-false, or_right}
 use Rattle.deck.specs.Tape.{written, mark, Reel, TapeSet, nth, look}
 use Rattle.records.specs.Headers.{counts_fit, band_fits, band_in, trailers_fit, bands_fit, content_of, header}
 use Rattle.records.specs.Layouts.{record_length, ancillaries, annotations, attributes, stride}
@@ -45,10 +45,6 @@ fits_most Interleaved mission lines h = few_lines (eqb mission 3) lines h
 fits_most Sequential mission lines h = omega arith
 fits_most Vidicon mission lines h = omega arith
 
-or_either : (a b : Bool) → b ≡ true → (a || b) ≡ true
-or_either true b e = refl
-or_either false b e = e
-
 whole_lines : (b : Bool) (lines : ℕ) → (lines * cond b 5 4) % cond b 5 4 ≡ 0
 whole_lines true lines = omega arith
 whole_lines false lines = omega arith
@@ -58,7 +54,7 @@ agree Interleaved mission lines groups first blocks e h = ap (λ k. eqb k 0) (ap
 agree Sequential mission lines groups first blocks e h =
     ⊎_elim
     (λ (z : groups ≡ 0). ap (λ k. k || eqb blocks first) (eq-eqb groups 0 z))
-    (λ (s : first ≡ lines * 1). or_either (eqb groups 0) (eqb blocks first) (eq-eqb blocks first (omega (arith, e, s))))
+    (λ (s : first ≡ lines * 1). or_right (eqb groups 0) (eqb blocks first) (eq-eqb blocks first (omega (arith, e, s))))
     h
 agree Vidicon mission lines groups first blocks e h = refl
 

@@ -1,5 +1,6 @@
 -- What a step that was taken tells of the block.
-use Rattle.std.proofs.Common.{◌≡◌, ℕ, ◌+◌, Bool, true, false, cond, not, ◌&&◌, ◌⊎◌, List, Some, None, Ok, Err, Option, Result, sym, refl, ap, inl, inr, arith}
+use Rattle.std.proofs.Common.{◌≡◌, ℕ, ◌+◌, Bool, true, false, cond, not, ◌&&◌, ◌⊎◌, List, Some, None, Ok, Err, Option, Result, sym, refl, ap, inl, inr}
+use Rattle.survey.proofs.Passing.{four}
 use Rattle.deck.specs.Tape.{Reel, TapeSet}
 use Rattle.records.specs.Headers.{counts_fit, band_fits, trailers_fit, bands_fit, content_of, header}
 use Rattle.machine.specs.Machines.{passed, begun}
@@ -16,7 +17,7 @@ abbrev pub after : ℕ → ℕ → Reel → TapeSet → Result Machine ℕ → R
 after reel block bs rs s = then (then (placed (place_of reel block) s) (λ n. feed_reel n reel (block + 1) bs)) (λ n. feed n (reel + 1) rs)
 
 pub refused : {X : Type 0} (f : Fault) (z : Machine) → ◌≡◌ {A = Result Machine Fault} (Err f) (Ok z) → X
-refused f z e = let k : ◌≡◌ {A = ℕ} 0 1 = cc in absurd (omega arith)
+refused f z e = cc
 
 module _ (reel block : ℕ) (bs : Reel) (rs : TapeSet) (z : Machine) where
   pub was_passed : (o : Option ℕ) (s : Result Machine ℕ) → after reel block bs rs (passed o s) ≡ Ok z → (o ≡ None) × (after reel block bs rs s ≡ Ok z)
@@ -53,31 +54,25 @@ pub record Headed (xs : List ℕ) (l : Layout) (last : ℕ) (h : Header) : Type 
   pub content_is : h.content ≡ content_of (byte xs 136) (byte xs 3586) l.form
   pub trailers_are : h.trailers ≡ byte xs 145
 
-four : (a b c d : Bool) (x h : Header) → cond {A = Result Header ℕ} a (cond b (cond c (cond d (Ok x) (Err 34)) (Err 33)) (Err 34)) (Err 33) ≡ Ok h → (a ≡ true) × ((b ≡ true) × ((c ≡ true) × ((d ≡ true) × (h ≡ x))))
-four true true true true x h e = (refl, (refl, (refl, (refl, cc))))
-four true true true false x h e = let k : ◌≡◌ {A = ℕ} 0 1 = cc in absurd (omega arith)
-four true true false d x h e = let k : ◌≡◌ {A = ℕ} 0 1 = cc in absurd (omega arith)
-four true false c d x h e = let k : ◌≡◌ {A = ℕ} 0 1 = cc in absurd (omega arith)
-four false b c d x h e = let k : ◌≡◌ {A = ℕ} 0 1 = cc in absurd (omega arith)
-
 pub header-says : (xs : List ℕ) (l : Layout) (last : ℕ) (h : Header) → header xs l last ≡ Ok h → Headed xs l last h
 unfolding header
 header-says xs l last h e =
-    let f = four (counts_fit xs l) (band_fits (byte xs 136) l last) (trailers_fit xs) (bands_fit (byte xs 3586) l) record { content = content_of (byte xs 136) (byte xs 3586) l.form; trailers = byte xs 145 } h e in
+    let f = four (counts_fit xs l) (band_fits (byte xs 136) l last) (trailers_fit xs) (bands_fit (byte xs 3586) l) (λ k. cc) (λ k. cc) (λ k. cc) (λ k. cc) e in
+    let is : record { content = content_of (byte xs 136) (byte xs 3586) l.form; trailers = byte xs 145 } ≡ h = let same = f.1.1.1.1 in cc in
     record {
       counts = f.0;
       band = f.1.0;
       trailers = f.1.1.0;
       bands = f.1.1.1.0;
-      content_is = ap (λ (k : Header). k.content) f.1.1.1.1;
-      trailers_are = ap (λ (k : Header). k.trailers) f.1.1.1.1;
+      content_is = ap (λ (k : Header). k.content) (sym is);
+      trailers_are = ap (λ (k : Header). k.trailers) (sym is);
     }
 
 -- A line of a missing band is zero.
 pub zero_if : (absent blank : Bool) → (absent && not blank) ≡ false → absent ≡ true → blank ≡ true
 zero_if true true e h = refl
 zero_if true false e h = sym e
-zero_if false blank e h = let k : ◌≡◌ {A = ℕ} 0 1 = cc in absurd (omega arith)
+zero_if false blank e h = cc
 
 pub not_absent : (absent : Bool) → (absent && true) ≡ false → absent ≡ false
 not_absent true e = e

@@ -1,7 +1,8 @@
 -- The survey judges rightly.
-use Rattle.std.proofs.Common.{◌≡◌, ℕ, ◌+◌, ◌-◌, ◌<◌, ◌≤◌, Bool, true, false, cond, ltb, ◌⊎◌, List, [], ◌∷◌, ◌++◌, map, length, take, drop, set, Ok, Err, Result, sym, refl, ap, ◌∙◌, subst, inl, inr, ⊎_elim, append_assoc, append-nil, arith, length-append, length-set}
+use Rattle.std.proofs.Common.{◌≡◌, ℕ, ◌+◌, ◌-◌, ◌<◌, ◌≤◌, Bool, true, false, cond, ltb, ◌⊎◌, List, [], ◌∷◌, ◌++◌, map, length, take, drop, set, Ok, Err, Result, sym, refl, ap, ◌∙◌, subst, inl, inr, ⊎_elim, append_assoc, append-nil, arith, length-append, length-set, zero, suc}
+use Rattle.records.proofs.Codes.{bands_below}
 use mathlib.Core.List.{map-append}
-use Rattle.std.proofs.lemmas.List.{take_more_set}
+use Rattle.std.proofs.lemmas.List.{take_more_set, nil_from_length}
 use Rattle.std.proofs.lemmas.Bool.{lt-ltb, cond-true}
 use Rattle.deck.specs.Tape.{TapeSet, Sound}
 use Rattle.records.specs.Bands.{present, no_bands, one_band, if_present, more_bands}
@@ -57,54 +58,36 @@ one_at_most false place = omega arith
 abbrev code_if : ℕ → ℕ → List ℕ
 code_if mask place = map (λ k. 4 + k) (if_there mask place)
 
-apart : (mask : ℕ) → code_if mask 0 ++ (code_if mask 1 ++ (code_if mask 2 ++ (code_if mask 3 ++ code_if mask 4))) ≡ codes_in (Mixed mask)
-apart mask =
-    let f : ℕ → ℕ = λ k. 4 + k in
-    let i0 = if_there mask 0 in
-    let i1 = if_there mask 1 in
-    let i2 = if_there mask 2 in
-    let i3 = if_there mask 3 in
-    let i4 = if_there mask 4 in
-    sym (map-append f i0 (i1 ++ (i2 ++ (i3 ++ i4))) ∙ ap (λ k. map f i0 ++ k) (map-append f i1 (i2 ++ (i3 ++ i4)) ∙ ap (λ k. map f i1 ++ k) (map-append f i2 (i3 ++ i4) ∙ ap (λ k. map f i2 ++ k) (map-append f i3 i4))))
+-- The codes of the bands that are present below a place.
+abbrev codes_below : ℕ → ℕ → List ℕ
+codes_below mask zero = []
+codes_below mask (suc n) = codes_below mask n ++ code_if mask n
+
+few_below : (mask n : ℕ) → length (codes_below mask n) ≤ n
+few_below mask zero = omega arith
+few_below mask (suc n) = omega (arith, few_below mask n, one_at_most (present mask n) n, length-append (codes_below mask n) (code_if mask n))
+
+below_show : (mask n : ℕ) (b : Bands) → n ≤ 5 → Shows b [] → Shows (bands_below mask n b) (codes_below mask n)
+below_show mask zero b h s = s
+below_show mask (suc n) b h s = if_shows (present mask n) n (bands_below mask n b) (codes_below mask n) (below_show mask n b (omega arith) s) (omega (arith, few_below mask n))
 
 mixed_shows : (mask : ℕ) (b : Bands) → Shows b [] → Shows (more_bands (Mixed mask) b) (codes_in (Mixed mask))
 mixed_shows mask b s =
-    let t0 : List ℕ = code_if mask 0 in
-    let t1 : List ℕ = code_if mask 1 in
-    let t2 : List ℕ = code_if mask 2 in
-    let t3 : List ℕ = code_if mask 3 in
-    let t4 : List ℕ = code_if mask 4 in
-    let l0 = one_at_most (present mask 0) 0 in
-    let l1 = one_at_most (present mask 1) 1 in
-    let l2 = one_at_most (present mask 2) 2 in
-    let l3 = one_at_most (present mask 3) 3 in
-    let a0 = length-append t0 t1 in
-    let a1 = length-append (t0 ++ t1) t2 in
-    let a2 = length-append ((t0 ++ t1) ++ t2) t3 in
-    let b0 = if_shows (present mask 0) 0 b [] s (omega arith) in
-    let b1 = if_shows (present mask 1) 1 _ t0 b0 (omega (arith, l0)) in
-    let b2 = if_shows (present mask 2) 2 _ (t0 ++ t1) b1 (omega (arith, l0, l1, a0)) in
-    let b3 = if_shows (present mask 3) 3 _ ((t0 ++ t1) ++ t2) b2 (omega (arith, l0, l1, l2, a0, a1)) in
-    let b4 = if_shows (present mask 4) 4 _ (((t0 ++ t1) ++ t2) ++ t3) b3 (omega (arith, l0, l1, l2, l3, a0, a1, a2)) in
-    let joined : (((t0 ++ t1) ++ t2) ++ t3) ++ t4 ≡ t0 ++ (t1 ++ (t2 ++ (t3 ++ t4))) = append_assoc ((t0 ++ t1) ++ t2) t3 t4 ∙ append_assoc (t0 ++ t1) t2 (t3 ++ t4) ∙ append_assoc t0 t1 (t2 ++ (t3 ++ t4)) in
-    subst (Shows (more_bands (Mixed mask) b)) (joined ∙ apart mask) b4
-
-nil : {X : Type 0} (xs : List X) → length xs ≡ 0 → xs ≡ []
-nil [] e = refl
-nil (x ∷ xs) e = absurd (omega (arith, e))
+    let together : codes_below mask 5 ≡ codes_in (Mixed mask) = simp (map-append, append_assoc) in
+    subst (Shows (more_bands (Mixed mask) b)) together (below_show mask 5 b (omega arith) s)
 
 -- The bands of a group.
 content_shows : (f : Form) (band mask : ℕ) (b : Bands) (codes : List ℕ) → Shows b codes → length codes < 5 → ((f ≡ Sequential) ⊎ (length codes ≡ 0)) → Shows (more_bands (content_of band mask f) b) (codes ++ codes_in (content_of band mask f))
 content_shows Interleaved band mask b codes s h alone =
     ⊎_elim
-    (λ (e : Interleaved ≡ Sequential). let u : ◌≡◌ {A = ℕ} 0 1 = cc in absurd (omega arith))
-    (λ (e : length codes ≡ 0). let none = nil codes e in subst (λ k. Shows (more_bands (Mixed mask) b) (k ++ codes_in (Mixed mask))) (sym none) (mixed_shows mask b (subst (Shows b) none s)))
+    (λ (e : Interleaved ≡ Sequential). cc)
+    (λ (e : length codes ≡ 0). let none = nil_from_length codes e in subst (λ k. Shows (more_bands (Mixed mask) b) (k ++ codes_in (Mixed mask))) (sym none) (mixed_shows mask b (subst (Shows b) none s)))
     alone
 content_shows Sequential band mask b codes s h alone = one_shows (band - 48) b codes s h
 content_shows Vidicon band mask b codes s h alone = one_shows band b codes s h
 
 code_of : (f : Form) (band mask : ℕ) → f ≡ Sequential → length (codes_in (content_of band mask f)) ≡ 1
-code_of Interleaved band mask e = let u : ◌≡◌ {A = ℕ} 0 1 = cc in absurd (omega arith)
+code_of Interleaved band mask e = cc
 code_of Sequential band mask e = refl
 code_of Vidicon band mask e = refl
 
@@ -149,7 +132,7 @@ same_ok : (a b : Accepted) (o : Result Accepted Fault) → o ≡ Ok a → o ≡ 
 same_ok a b o p q = cc
 
 not_both : {Y : Type 0} (a : Accepted) (f : Fault) (o : Result Accepted Fault) → o ≡ Ok a → o ≡ Err f → Y
-not_both a f o p q = let u : ◌≡◌ {A = ℕ} 0 1 = cc in absurd (omega arith)
+not_both a f o p q = cc
 
 obeys_set : (set : TapeSet) (a : Accepted) → Recorded set → surveyed set ≡ Ok a → Obeys a set
 obeys_set set a s e =

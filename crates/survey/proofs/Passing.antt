@@ -4,18 +4,19 @@ use Rattle.std.proofs.lemmas.Bool.{eq-eqb, eqb-true, and_parts, and_from}
 use Rattle.records.specs.Records.{byte, has_number, checked}
 use Rattle.survey.specs.Recordings.{Body, record_of}
 
-same : (n : ℕ) → eqb n n ≡ true
-same n = eq-eqb n n refl
-
-four : (a b c d : Bool) → cond {A = Option ℕ} a (cond b (cond c (cond d None (Some 26)) (Some 25)) (Some 24)) (Some 23) ≡ None → (a ≡ true) × ((b ≡ true) × ((c ≡ true) × (d ≡ true)))
-four true true true true e = (refl, (refl, (refl, refl)))
-four true true true false e = let z : ◌≡◌ {A = ℕ} 0 1 = cc in absurd (omega arith)
-four true true false d e = let z : ◌≡◌ {A = ℕ} 0 1 = cc in absurd (omega arith)
-four true false c d e = let z : ◌≡◌ {A = ℕ} 0 1 = cc in absurd (omega arith)
-four false b c d e = let z : ◌≡◌ {A = ℕ} 0 1 = cc in absurd (omega arith)
+-- Four tests in a row, each with its own refusal: what is not refused has passed them all.
+pub four : {X : Type 0} (a b c d : Bool) {x y r s t u : X} → (r ≡ y → ⊥) → (s ≡ y → ⊥) → (t ≡ y → ⊥) → (u ≡ y → ⊥) → cond a (cond b (cond c (cond d x r) s) t) u ≡ y → (a ≡ true) × ((b ≡ true) × ((c ≡ true) × ((d ≡ true) × (x ≡ y))))
+four true true true true hr hs ht hu e = (refl, (refl, (refl, (refl, e))))
+four true true true false hr hs ht hu e = absurd (hr e)
+four true true false d hr hs ht hu e = absurd (hs e)
+four true false c d hr hs ht hu e = absurd (ht e)
+four false b c d hr hs ht hu e = absurd (hu e)
 
 four_pass : (a b c d : Bool) → a ≡ true → b ≡ true → c ≡ true → d ≡ true → cond {A = Option ℕ} a (cond b (cond c (cond d None (Some 26)) (Some 25)) (Some 24)) (Some 23) ≡ None
 four_pass a b c d p q r s = rw (p, q, r, s) refl
+
+same : (n : ℕ) → eqb n n ≡ true
+same n = eq-eqb n n refl
 
 pub passes : (n kind : ℕ) (body : Body) (len : ℕ) → length body ≡ len - 6 → 6 ≤ len → checked (record_of n kind body) len kind n ≡ None
 unfolding checked
@@ -36,8 +37,8 @@ pub record Spelt (xs : List ℕ) (len kind n : ℕ) : Type 0 where
 parts_of : (xs : List ℕ) (len kind n : ℕ) → checked xs len kind n ≡ None → (length xs ≡ len) × ((byte xs 5 ≡ 0) × ((byte xs 6 ≡ kind) × (has_number xs n ≡ true)))
 unfolding checked
 parts_of xs len kind n e =
-    let f = four (eqb (length xs) len) (eqb (byte xs 5) 0) (eqb (byte xs 6) kind) (has_number xs n) e in
-    (eqb-true (length xs) len f.0, (eqb-true (byte xs 5) 0 f.1.0, (eqb-true (byte xs 6) kind f.1.1.0, f.1.1.1)))
+    let f = four (eqb (length xs) len) (eqb (byte xs 5) 0) (eqb (byte xs 6) kind) (has_number xs n) (λ h. cc) (λ h. cc) (λ h. cc) (λ h. cc) e in
+    (eqb-true (length xs) len f.0, (eqb-true (byte xs 5) 0 f.1.0, (eqb-true (byte xs 6) kind f.1.1.0, f.1.1.1.0)))
 
 spelt_of : (xs : List ℕ) (len kind n : ℕ) → 6 ≤ len → length xs ≡ len → byte xs 5 ≡ 0 → byte xs 6 ≡ kind → has_number xs n ≡ true → Spelt xs len kind n
 spelt_of [] len kind n h l z k m = absurd (omega arith)

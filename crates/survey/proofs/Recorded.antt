@@ -1,5 +1,6 @@
 -- Every accepted set was written from a valid recording.
 use Rattle.std.proofs.Common.{◌≡◌, ℕ, ◌+◌, ◌≤◌, Bool, true, false, cond, eqb, List, [], ◌∷◌, ◌++◌, length, drop, replicate, Some, None, Ok, Err, Option, Result, sym, refl, ap, ◌∙◌, subst, inl, inr, ⊎_elim, arith}
+use Rattle.std.proofs.lemmas.List.{nil_from_length}
 use Rattle.std.proofs.lemmas.Bool.{eqb-true}
 use Rattle.deck.specs.Tape.{written, mark, bad, Reel, TapeSet}
 use Rattle.records.specs.Bands.{no_bands}
@@ -30,10 +31,6 @@ use Rattle.survey.proofs.Steps.{machine}
 use Rattle.survey.proofs.Stretches.{hd, tl, bound_more}
 use Rattle.survey.proofs.Understanding.{Again, block_left}
 
-none_left : {X : Type 0} (xs : List X) → length xs ≡ 0 → xs ≡ []
-none_left [] e = refl
-none_left (x ∷ xs) e = absurd (omega (arith, e))
-
 module _ (z : Machine) (many : ℕ) (d : Body) (l : Layout) (whole : length d ≡ 354) where
   abbrev at : Expect → Group → ℕ → List Group → Bands → Machine
   at e g c t b = machine many (record_of 1 9 d) l e g c t b
@@ -58,7 +55,7 @@ module _ (z : Machine) (many : ℕ) (d : Body) (l : Layout) (whole : length d �
   ended reel rs left next expects.LastMark g c t b block five k q = refused _ z q
   ended reel rs left next (expects.End (Some onwards.Header)) g c t b block five k q = (refl, next (Some onwards.Header) g c t b five k.0 (inl k.1) q)
   ended reel rs left next (expects.End (Some onwards.Image)) g c t b block five k q = (refl, next (Some onwards.Image) g c t b five k.0 k.1 q)
-  ended reel rs left next (expects.End None) g c t b block five k q = (refl, none_left rs (omega (arith, left, k)))
+  ended reel rs left next (expects.End None) g c t b block five k q = (refl, nil_from_length rs (omega (arith, left, k)))
 
   -- The rest of a reel.
   pub along : (bs : Reel) (reel : ℕ) (rs : TapeSet) → 1 ≤ reel → reel + length rs ≡ many → Next reel rs → Again z many d l reel bs rs
@@ -115,10 +112,10 @@ named_is xs many l e = by_option (layout_of xs) e
   where
     by_cond : (k : Layout) (b : Bool) → fixed xs k many ≡ b → cond b (Some k) None ≡ Some l → (Some k ≡ Some l) × (fixed xs l many ≡ true)
     by_cond k true f e = (e, let same : k ≡ l = cc in subst (λ y. fixed xs y many ≡ true) same f)
-    by_cond k false f e = let u : ◌≡◌ {A = ℕ} 0 1 = cc in absurd (omega arith)
+    by_cond k false f e = cc
 
     by_option : (o : Option Layout) → named xs many o ≡ Some l → (o ≡ Some l) × (fixed xs l many ≡ true)
-    by_option None e = let u : ◌≡◌ {A = ℕ} 0 1 = cc in absurd (omega arith)
+    by_option None e = cc
     by_option (Some k) e = by_cond k (fixed xs k many) refl e
 
 -- The first reel.
@@ -183,7 +180,7 @@ record Ended (o : Result Machine Fault) (a : Accepted) : Type 0 where
 
 ended_with : (o : Result Machine Fault) (a : Accepted) → then o (λ m. Ok (accepted m)) ≡ Ok a → Ended o a
 ended_with (Ok m) a e = record { final = m; is = refl; says = cc }
-ended_with (Err f) a e = let u : ◌≡◌ {A = ℕ} 0 1 = cc in absurd (omega arith)
+ended_with (Err f) a e = cc
 
 pub recorded : (set : TapeSet) (a : Accepted) → 1 ≤ length set → length set ≤ 9 → surveyed set ≡ Ok a → Recorded set
 recorded [] a some nine e = absurd (omega arith)

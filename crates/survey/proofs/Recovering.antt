@@ -1,5 +1,6 @@
 -- From a run that was accepted, what a writer wrote: step by step, from the end.
 use Rattle.std.proofs.Common.{◌≡◌, ℕ, ◌+◌, ◌*◌, ◌/◌, ◌%◌, ◌<◌, ◌≤◌, Bool, true, false, cond, ◌&&◌, eqb, leb, ◌⊎◌, List, [], ◌∷◌, ◌++◌, length, drop, None, sym, refl, ap, ◌∙◌, subst, inl, inr, ⊎_elim, arith}
+use Rattle.std.proofs.lemmas.List.{nil_from_length}
 use Rattle.std.proofs.lemmas.Bool.{leb-true, leb-false, eqb-true, and_parts, or_cases}
 use Rattle.deck.specs.Tape.{Block, written, mark, Reel, TapeSet}
 use Rattle.records.specs.Headers.{trailers_fit}
@@ -56,10 +57,6 @@ agreed f bands c first n s e =
     (or_cases (eqb c 0) (eqb n first) (subst (λ k. lines_agree k bands c first n ≡ true) s e))
 
 -- An empty list.
-nil : {X : Type 0} (xs : List X) → length xs ≡ 0 → xs ≡ []
-nil [] e = refl
-nil (x ∷ xs) e = absurd (omega (arith, e))
-
 pub some_trailer : (xs : List ℕ) → trailers_fit xs ≡ true → 1 ≤ byte xs 145
 some_trailer xs e = leb-true 1 (byte xs 145) (and_parts (leb 1 (byte xs 145)) (leb (byte xs 145) 5) (and_parts (eqb (byte xs 144) 0) (leb 1 (byte xs 145) && leb (byte xs 145) 5) e).1).0
 
@@ -96,7 +93,7 @@ module _ (many : ℕ) (d : Body) (l : Layout) (reel : ℕ) (bs : Reel) (rs : Tap
       let image = image_file (g.blocks + 1) r.parts behind in
       let i = r.first_count in
       let j = r.second_count in
-      let none : r.first ≡ [] = nil r.first (omega (arith, i)) in
+      let none : r.first ≡ [] = nil_from_length r.first (omega (arith, i)) in
       let none_long = ap length none in
       let rem1 = subst (λ k. rests.Rem many d l reel bs rs (before (numbered 36 (n + 1) k ++ (numbered 219 (n + 1 + length k) r.second ++ mark ∷ [])) image)) none r.rem in
       let number : n + 1 + length {A = Body} [] ≡ n + length {A = Body} [] + 1 = omega arith in

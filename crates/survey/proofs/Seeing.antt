@@ -1,5 +1,5 @@
 -- What a fetch shows is the block that stands there.
-use Rattle.std.proofs.Common.{◌≡◌, ℕ, ◌/◌, Bool, true, false, cond, ltb, List, ◌++◌, length, drop, is_some, Some, None, Ok, Err, Option, Result, refl, ap, subst, arith}
+use Rattle.std.proofs.Common.{◌≡◌, ℕ, ◌/◌, Bool, true, false, cond, ltb, List, ◌++◌, length, drop, is_some, Some, None, Ok, Err, Option, Result, refl, ap, subst}
 use Rattle.std.proofs.lemmas.List.{take_at}
 use Rattle.deck.specs.Answers.{fetched, filled}
 use Rattle.deck.specs.Tape.{Block, written, mark, bad}
@@ -15,22 +15,19 @@ use Rattle.records.specs.declared.fault.DeckFault.TheVariants as decks
 use Rattle.records.specs.declared.fault.RecordFault.TheVariants as records
 use Rattle.records.specs.declared.fault.SetFault.TheVariants as sets
 
-same_kind : (j k : Option (Kind ℕ)) → ◌≡◌ {A = Result (Option (Kind ℕ)) Short} (Ok j) (Ok k) → j ≡ k
-same_kind j k e = cc
-
 -- A record that fits, and one that does not.
 shown_record : (xs buffer : List ℕ) (kind : Option (Kind ℕ)) (b : Bool) → cond {A = Result (Option (Kind ℕ)) Short} b (Err record {}) (Ok (Some (kinds.Record (length xs)))) ≡ Ok kind → (shown_in kind (cond b buffer (xs ++ drop (length xs) buffer)) ≡ Some (written xs)) × (is_some kind ≡ true)
-shown_record xs buffer kind true e = let z : ◌≡◌ {A = ℕ} 0 1 = cc in absurd (omega arith)
+shown_record xs buffer kind true e = cc
 shown_record xs buffer kind false e =
-    let is : Some (kinds.Record (length xs)) ≡ kind = same_kind (Some (kinds.Record (length xs))) kind e in
+    let is : Some (kinds.Record (length xs)) ≡ kind = cc in
     subst (λ k. (shown_in k (xs ++ drop (length xs) buffer) ≡ Some (written xs)) × (is_some k ≡ true)) is
     (ap (λ t. Some (written t)) (take_at xs (drop (length xs) buffer) (length xs) refl), refl)
 
 pub shown-fetched : (o : Option Block) (buffer : List ℕ) (kind : Option (Kind ℕ)) → fetched o (length buffer) ≡ Ok kind → (shown_in kind (filled o buffer) ≡ o) × (is_some kind ≡ is_some o)
-shown-fetched None buffer kind e = subst (λ k. (shown_in k buffer ≡ None) × (is_some k ≡ false)) (same_kind None kind e) (refl, refl)
+shown-fetched None buffer kind e = let is : None ≡ kind = cc in subst (λ k. (shown_in k buffer ≡ None) × (is_some k ≡ false)) is (refl, refl)
 shown-fetched (Some (written xs)) buffer kind e = shown_record xs buffer kind (ltb (length buffer) (length xs)) e
-shown-fetched (Some mark) buffer kind e = subst (λ k. (shown_in k buffer ≡ Some mark) × (is_some k ≡ true)) (same_kind (Some kinds.Mark) kind e) (refl, refl)
-shown-fetched (Some bad) buffer kind e = subst (λ k. (shown_in k buffer ≡ Some bad) × (is_some k ≡ true)) (same_kind (Some kinds.Bad) kind e) (refl, refl)
+shown-fetched (Some mark) buffer kind e = let is : Some kinds.Mark ≡ kind = cc in subst (λ k. (shown_in k buffer ≡ Some mark) × (is_some k ≡ true)) is (refl, refl)
+shown-fetched (Some bad) buffer kind e = let is : Some kinds.Bad ≡ kind = cc in subst (λ k. (shown_in k buffer ≡ Some bad) × (is_some k ≡ true)) is (refl, refl)
 
 -- The first digit of a fault's number is its layer.
 layer-digit : (c : Cause) → layer c ≡ number c / 10

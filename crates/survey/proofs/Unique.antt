@@ -52,7 +52,7 @@ same_numbered kind n (x ∷ xs) (y ∷ ys) e =
 
 -- Records up to a mark.
 no_mark : {Y : Type 0} {xs : List ℕ} → written xs ≡ mark → Y
-no_mark e = let k : ◌≡◌ {A = ℕ} 0 1 = cc in absurd (omega arith)
+no_mark e = cc
 
 up_to_mark : (kind n : ℕ) (xs ys : List Body) (us vs : Reel) → numbered kind n xs ++ mark ∷ us ≡ numbered kind n ys ++ mark ∷ vs → (xs ≡ ys) × (us ≡ vs)
 up_to_mark kind n [] [] us vs e = (refl, cons_tail e)
@@ -65,17 +65,17 @@ up_to_mark kind n (x ∷ xs) (y ∷ ys) us vs e =
 -- Lines up to a mark.
 same_line : (n : ℕ) (x y : Line) → line_block n x ≡ line_block n y → x ≡ y
 same_line n (Some a) (Some b) e = ap Some (same_record n 237 a b e)
-same_line n (Some a) None e = let k : ◌≡◌ {A = ℕ} 0 1 = cc in absurd (omega arith)
-same_line n None (Some b) e = let k : ◌≡◌ {A = ℕ} 0 1 = cc in absurd (omega arith)
+same_line n (Some a) None e = cc
+same_line n None (Some b) e = cc
 same_line n None None e = refl
 
 line_no_mark : {Y : Type 0} (n : ℕ) (x : Line) → line_block n x ≡ mark → Y
 line_no_mark n (Some a) e = no_mark e
-line_no_mark n None e = let k : ◌≡◌ {A = ℕ} 0 1 = cc in absurd (omega arith)
+line_no_mark n None e = cc
 
 line_no_trailer : {Y : Type 0} (n : ℕ) (x : Line) (y : Body) → line_block n x ≡ written (record_of 1 246 y) → Y
 line_no_trailer n (Some a) y e = other_type n 1 a y e
-line_no_trailer n None y e = let k : ◌≡◌ {A = ℕ} 0 1 = cc in absurd (omega arith)
+line_no_trailer n None y e = cc
 
 lines_to_mark : (n : ℕ) (xs ys : List Line) (us vs : Reel) → lines_from n xs ++ mark ∷ us ≡ lines_from n ys ++ mark ∷ vs → (xs ≡ ys) × (us ≡ vs)
 lines_to_mark n [] [] us vs e = (refl, cons_tail e)
@@ -247,7 +247,7 @@ same_ends false true f g fs gs e = let h = headed f fs in no_cons (sym h.is ∙ 
 same_ends false false f g fs gs e = (refl, e)
 
 last_ends : {Y : Type 0} (a b : Bool) (g : Files) (gs : List Files) → a ≡ false → 1 ≤ length (stretches (g ∷ gs)) → closes a (stretches []) ≡ closes b (stretches (g ∷ gs)) → Y
-last_ends true b g gs h k e = let u : ◌≡◌ {A = ℕ} 0 1 = cc in absurd (omega arith)
+last_ends true b g gs h k e = cc
 last_ends false true g gs h k e = let w = ap length (cons_tail e) in absurd (omega (arith, w, k))
 last_ends false false g gs h k e = let u = headed g gs in no_cons (sym u.is ∙ sym (ap hd e))
 

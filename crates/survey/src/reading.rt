@@ -21,48 +21,48 @@ fn seen_as(kind: Option<Kind<usize>>, scratch: &[u8]) -> Option<Kind<&[u8]>>
     })
 }
 
-// Reads one block and hands it to the machine. Says whether there was one.
-fn take<D: Deck>(
-    deck: &mut D,
-    machine: &mut Machine,
-    at: Place,
-    scratch: &mut [u8; LONGEST_RECORD],
-) -> Result<bool, TapeFault>
-    ensures stays { D.meaning deck.new ≡ D.meaning deck.old }
-    ensures says { told_step result machine.new ≡ placed at (step machine.old at (look (D.meaning deck.old) at.reel at.block)) }
-    ensures more { IfOk result (λ b. b ≡ is_some (look (D.meaning deck.old) at.reel at.block)) }
-    ensures stays_steady { Steady machine.old → OnOk result (Steady machine.new) }
-{
-    let Ok(kind) = deck.fetch(at.reel, at.block, scratch) else {
-        return unreachable();
-    };
-    match machine.step(at, seen_as(kind, scratch)) {
-        Ok(()) => Ok(kind.is_some()),
-        Err(cause) => Err(TapeFault {
-            cause,
-            reel: at.reel,
-            block: at.block,
-        }),
-    }
+// A survey under way: the machine, and the buffer into which blocks are fetched.
+#[derive(Drop)]
+struct Reading {
+    machine: Machine,
+    scratch: [u8; LONGEST_RECORD],
 }
 
-// Reads a reel from its first block to its end.
-fn survey_reel<D: Deck>(
-    deck: &mut D,
-    machine: &mut Machine,
-    reel: u32,
-    scratch: &mut [u8; LONGEST_RECORD],
-) -> Result<(), TapeFault>
-    requires { (1 ≤ reel) × (reel ≤ length (D.meaning deck.old)) }
-    ensures stays { D.meaning deck.new ≡ D.meaning deck.old }
-    ensures says { told_step result machine.new ≡ feed_reel machine.old reel 1 (slice_index_or (D.meaning deck.old) (reel - 1) []) }
-    ensures stays_steady { Steady machine.old → OnOk result (Steady machine.new) }
-{
-    let mut block = 1;
-    while take(deck, machine, Place { reel, block }, scratch)? {
-        block += 1;
+impl Reading {
+    // Reads one block and hands it to the machine. Says whether there was one.
+    fn take<D: Deck>(&mut self, deck: &mut D, at: Place) -> Result<bool, TapeFault>
+        ensures stays { D.meaning deck.new ≡ D.meaning deck.old }
+        ensures says { told_step result self.new.machine ≡ placed at (step self.old.machine at (look (D.meaning deck.old) at.reel at.block)) }
+        ensures more { IfOk result (λ b. b ≡ is_some (look (D.meaning deck.old) at.reel at.block)) }
+        ensures stays_steady { Steady self.old.machine → OnOk result (Steady self.new.machine) }
+    {
+        let Ok(kind) = deck.fetch(at.reel, at.block, &mut self.scratch) else {
+            return unreachable();
+        };
+        match self.machine.step(at, seen_as(kind, &self.scratch)) {
+            Ok(()) => Ok(kind.is_some()),
+            Err(cause) => Err(TapeFault {
+                cause,
+                reel: at.reel,
+                block: at.block,
+            }),
+        }
     }
-    Ok(())
+
+    // Reads a reel from its first block to its end.
+    fn read_reel<D: Deck>(&mut self, deck: &mut D, reel: u32) -> Result<(), TapeFault>
+        requires { (1 ≤ reel) × (reel ≤ length (D.meaning deck.old)) }
+        ensures stays { D.meaning deck.new ≡ D.meaning deck.old }
+        ensures says { told_step result self.new.machine ≡ feed_reel self.old.machine reel 1 (slice_index_or (D.meaning deck.old) (reel - 1) []) }
+        ensures stays_steady { Steady self.old.machine → OnOk result (Steady self.new.machine) }
+    {
+        for block in 1.. {
+            if !self.take(deck, Place { reel, block })? {
+                break;
+            }
+        }
+        Ok(())
+    }
 }
 
 // Surveys the set that is on a deck: what an accepted set is, or the first fault in the order of the tape.
@@ -72,10 +72,12 @@ pub fn survey<D: Deck>(deck: &mut D) -> Result<Accepted, TapeFault>
     ensures judges { Judged (told result) (D.meaning deck.old) }
 {
     let reels = deck.reels();
-    let mut machine = Machine::new(reels);
-    let mut scratch = [0; LONGEST_RECORD];
+    let mut reading = Reading {
+        machine: Machine::new(reels),
+        scratch: [0; LONGEST_RECORD],
+    };
     for reel in 1..=reels {
-        survey_reel(deck, &mut machine, reel, &mut scratch)?;
+        reading.read_reel(deck, reel)?;
     }
-    Ok(machine.accepted())
+    Ok(reading.machine.accepted())
 }

@@ -3,13 +3,13 @@
 
 use std::io;
 use std::io::{Read, Write};
-use turning::{Turned, strip_turned};
+use turning::strip_turned;
 
 fn main(rt: HostRuntime) -> io::Result<()> {
     let mut bytes = Vec::new(rt.alloc());
     rt.stdin().read_to_end(&mut bytes)?;
-    match strip_turned(rt.alloc(), bytes)? {
-        Turned::Strip(strip) => rt.stdout().write_all(strip.as_slice()),
-        Turned::Refused(line) => rt.eprint(line),
+    match strip_turned(rt.alloc(), bytes) {
+        Ok(strip) => rt.stdout().write_all(strip.as_slice()),
+        Err(refused) => rt.eprint(refused.line(rt.alloc())?),
     }
 }

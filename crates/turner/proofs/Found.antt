@@ -57,7 +57,7 @@ no_row code i0 (c ∷ cs) [] e = refl
 no_row code i0 (c ∷ cs) (r ∷ rs) e = found (eqb c code) (no_row code (i0 + 1) cs rs) e
   where
     found : (b : Bool) → (index_of code cs (i0 + 1) ≡ None → row_of code cs rs ≡ None) → cond b (Some i0) (index_of code cs (i0 + 1)) ≡ None → cond b (Some r) (row_of code cs rs) ≡ None
-    found true again e = let u : ◌≡◌ {A = ℕ} 0 1 = cc in absurd (omega arith)
+    found true again e = cc
     found false again e = again e
 
 read_line : (x : Line) → readable (line_or x) ≡ x

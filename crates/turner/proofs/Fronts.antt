@@ -55,10 +55,10 @@ by_values (Some f) (Some m) (Some c) l e = allowed_so (allowed f m) e
   where
     allowed_so : (b : Bool) → cond b (Some record { form = f; mission = m; correction = c }) None ≡ Some l → Named (Some f) (Some m) (Some c) l
     allowed_so true e = let is : record { form = f; mission = m; correction = c } ≡ l = some_same e in record { form = ap (λ (k : Layout). Some k.form) is; mission = ap (λ (k : Layout). Some k.mission) is; correction = ap (λ (k : Layout). Some k.correction) is }
-    allowed_so false e = let u : ◌≡◌ {A = ℕ} 0 1 = cc in absurd (omega arith)
-by_values None m c l e = let u : ◌≡◌ {A = ℕ} 0 1 = cc in absurd (omega arith)
-by_values (Some f) None c l e = let u : ◌≡◌ {A = ℕ} 0 1 = cc in absurd (omega arith)
-by_values (Some f) (Some m) None l e = let u : ◌≡◌ {A = ℕ} 0 1 = cc in absurd (omega arith)
+    allowed_so false e = cc
+by_values None m c l e = cc
+by_values (Some f) None c l e = cc
+by_values (Some f) (Some m) None l e = cc
 
 -- The scanner's letter.
 scanner : (letter order : ℕ) (f : Form) → form_of letter order ≡ Some f → (f ≡ Vidicon → ⊥) → eqb letter 77 ≡ true
@@ -67,8 +67,8 @@ scanner letter order f e n = by_letter (eqb letter 77) (eqb letter 82) (eqb orde
     by_letter : (a b c d : Bool) → cond a (cond c (Some Interleaved) (cond d (Some Sequential) None)) (cond b (cond d (Some Vidicon) None) None) ≡ Some f → a ≡ true
     by_letter true b c d e = refl
     by_letter false true c true e = absurd (n (sym (some_same e)))
-    by_letter false true c false e = let u : ◌≡◌ {A = ℕ} 0 1 = cc in absurd (omega arith)
-    by_letter false false c d e = let u : ◌≡◌ {A = ℕ} 0 1 = cc in absurd (omega arith)
+    by_letter false true c false e = cc
+    by_letter false false c d e = cc
 
 form_turned : (letter : ℕ) (o : Order) → eqb letter 77 ≡ true → form_of letter (order_byte o) ≡ Some (form_in o)
 form_turned letter ByLine e = cond-true (eqb letter 77) _ _ e

@@ -1,5 +1,5 @@
 -- What turning keeps.
-use Rattle.std.proofs.Common.{◌≡◌, ℕ, zero, suc, length, sym, refl, ap, ◌∙◌, arith}
+use Rattle.std.proofs.Common.{◌≡◌, ℕ, zero, suc, length, sym, refl, ap, ◌∙◌}
 use Rattle.deck.specs.Tape.{TapeSet}
 use Rattle.records.specs.declared.layout.Form.{Form}
 use Rattle.records.specs.declared.layout.Form.TheVariants.{Interleaved, Sequential, Vidicon}
@@ -43,11 +43,11 @@ one_more r v Vidicon e = record { recording = r; valid = v; is = sym (vidicon_tu
 one_more r v Interleaved e = let n : r.layout.form ≡ Vidicon → ⊥ = λ w. not_mixed (sym e ∙ w) in let t = turns r v n in record { recording = turn r; valid = t.valid; is = sym (scanner_turned r v n); same = t.same }
   where
     not_mixed : Interleaved ≡ Vidicon → ⊥
-    not_mixed w = let u : ◌≡◌ {A = ℕ} 0 1 = cc in omega arith
+    not_mixed w = cc
 one_more r v Sequential e = let n : r.layout.form ≡ Vidicon → ⊥ = λ w. not_apart (sym e ∙ w) in let t = turns r v n in record { recording = turn r; valid = t.valid; is = sym (scanner_turned r v n); same = t.same }
   where
     not_apart : Sequential ≡ Vidicon → ⊥
-    not_apart w = let u : ◌≡◌ {A = ℕ} 0 1 = cc in omega arith
+    not_apart w = cc
 
 pub piles : (n : ℕ) (set : TapeSet) (r : Recording) → Valid r → written_as r ≡ set → ShowsPicture r (pile n set)
 piles zero set r v e = record { recording = r; valid = v; is = e; same = refl }
@@ -65,10 +65,10 @@ twice_turned r v e one =
     ∙ ap written_as (twice r v e one)
   where
     not_mixed : Interleaved ≡ Vidicon → ⊥
-    not_mixed w = let u : ◌≡◌ {A = ℕ} 0 1 = cc in omega arith
+    not_mixed w = cc
 
     not_apart : Sequential ≡ Vidicon → ⊥
-    not_apart w = let u : ◌≡◌ {A = ℕ} 0 1 = cc in omega arith
+    not_apart w = cc
 
 pub keeps : (set : TapeSet) → Kept set
 keeps set = record {

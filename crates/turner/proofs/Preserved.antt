@@ -93,10 +93,10 @@ module _ (mission lines : ℕ) (correction : Correction) where
             subst (λ k. eqb (mask_of (chosen c.four c.five c.six c.seven k) % 2) 0 ≡ true) (sym none) (even_mask c.four c.five c.six c.seven)
 
 sequential_form : Sequential ≡ Vidicon → ⊥
-sequential_form e = let u : ◌≡◌ {A = ℕ} 0 1 = cc in omega arith
+sequential_form e = cc
 
 interleaved_form : Interleaved ≡ Vidicon → ⊥
-interleaved_form e = let u : ◌≡◌ {A = ℕ} 0 1 = cc in omega arith
+interleaved_form e = cc
 
 -- Recordings by their parts.
 abbrev recorded : Form → ℕ → Correction → Body → ℕ → List Files → Recording

@@ -43,7 +43,7 @@ kept xs i a e = ap (set xs i) (sym e) ∙ set-get_or xs i 0
 
 -- The directory.
 none_some : {X Y : Type 0} {x : X} → None ≡ Some x → Y
-none_some e = let u : ◌≡◌ {A = ℕ} 0 1 = cc in absurd (omega arith)
+none_some e = cc
 
 some_some : {X : Type 0} {x y : X} → Some x ≡ Some y → x ≡ y
 some_some e = cc
@@ -62,10 +62,10 @@ order_of : (letter order : ℕ) → form_of letter order ≡ Some Interleaved �
 order_of letter order e = by_letter (eqb letter 77) (eqb letter 82) e
   where
     other : {X : Type 0} → Some Sequential ≡ Some Interleaved → X
-    other e = let u : ◌≡◌ {A = ℕ} 0 1 = cc in absurd (omega arith)
+    other e = cc
 
     vidicon : {X : Type 0} → Some Vidicon ≡ Some Interleaved → X
-    vidicon e = let u : ◌≡◌ {A = ℕ} 0 1 = cc in absurd (omega arith)
+    vidicon e = cc
 
     by_band : {X : Type 0} (b : Bool) → cond b (Some Sequential) None ≡ Some Interleaved → X
     by_band true e = other e
@@ -257,7 +257,7 @@ fit_at l c i (suc j) (x ∷ xs) a h = let e : i + 1 + j ≡ i + suc j = omega ar
 
 -- A line of a missing band.
 missing-line : (l : Layout) (c : Content) (i : ℕ) (x : Line) → Fit l c i x → missing c i (stride l) ≡ true → Some (replicate (body_length l) 0) ≡ x
-missing-line l c i None f m = let u : ◌≡◌ {A = Bool} true false = sym m ∙ f in let z : ◌≡◌ {A = ℕ} 0 1 = cc in absurd (omega arith)
+missing-line l c i None f m = let u : ◌≡◌ {A = Bool} true false = sym m ∙ f in cc
 missing-line l c i (Some body) f m = ap (λ k. Some (replicate k 0)) (sym f.0) ∙ ap Some (zeros_are body (f.1 m))
 
 place_back : (b : Bool) (n place : ℕ) → place < cond b 5 4 → (n * cond b 5 4 + place) % cond b 5 4 ≡ place
@@ -496,7 +496,7 @@ abbrev turned_twice : ℕ → Correction → ℕ → List Files → List Files
 turned_twice mission correction lines gs = (turn (turn (recorded Interleaved mission correction [] lines gs))).groups
 
 not_sequential : {X : Type 0} → Interleaved ≡ Sequential → X
-not_sequential e = let u : ◌≡◌ {A = ℕ} 0 1 = cc in absurd (omega arith)
+not_sequential e = cc
 
 groups_again : (mission : ℕ) (correction : Correction) (lines : ℕ) (gs : List Files) → ValidGroups (by_line mission correction) lines 0 gs → length (stretches gs) ≡ 1 → turned_twice mission correction lines gs ≡ gs
 groups_again mission correction lines [] v e = absurd v

@@ -24,7 +24,7 @@ use Rattle.turner.proofs.Weaving.{length-across, length-woven, getD_woven}
 
 -- A row by its band.
 pub row_found : (code i0 i : ℕ) (cs : List ℕ) (rs : List (List Line)) → length rs ≡ length cs → index_of code cs i0 ≡ Some i → (i0 ≤ i) × (row_of code cs rs ≡ Some (get_or rs (i - i0) []))
-row_found code i0 i [] rs h e = let u : ◌≡◌ {A = ℕ} 0 1 = cc in absurd (omega arith)
+row_found code i0 i [] rs h e = cc
 row_found code i0 i (c ∷ cs) [] h e = absurd (omega (arith, h))
 row_found code i0 i (c ∷ cs) (r ∷ rs) h e = found (eqb c code) (row_found code (i0 + 1) i cs rs (omega (arith, h))) e
   where
@@ -42,8 +42,8 @@ Elem x [] = ⊥
 Elem x (y ∷ ys) = (y ≡ x) ⊎ Elem x ys
 
 row_known : (size lines code : ℕ) (cs : List ℕ) (rs : List (List Line)) (row : List Line) → Rows size lines rs → row_of code cs rs ≡ Some row → Elem code cs × SizedAll size row
-row_known size lines code [] rs row w e = let u : ◌≡◌ {A = ℕ} 0 1 = cc in absurd (omega arith)
-row_known size lines code (c ∷ cs) [] row w e = let u : ◌≡◌ {A = ℕ} 0 1 = cc in absurd (omega arith)
+row_known size lines code [] rs row w e = cc
+row_known size lines code (c ∷ cs) [] row w e = cc
 row_known size lines code (c ∷ cs) (r ∷ rs) row w e = found (eqb c code) refl (row_known size lines code cs rs row w.1) e
   where
     found : (b : Bool) → eqb c code ≡ b → (row_of code cs rs ≡ Some row → Elem code cs × SizedAll size row) → cond b (Some r) (row_of code cs rs) ≡ Some row → Elem code (c ∷ cs) × SizedAll size row
@@ -115,7 +115,7 @@ module _ (l : Layout) (lines mask : ℕ) (cs : List ℕ) (rs : List (List Line))
       fits (get_or row n None) (sized_at (body_length l) n row k.1) found
     where
       fits : (x : Line) → Sized (body_length l) x → missing (Mixed mask) i (stride l) ≡ false → Fit l (Mixed mask) i x
-      fits (Some body) s f = (s, λ (t : missing (Mixed mask) i (stride l) ≡ true). let u : ◌≡◌ {A = ℕ} 0 1 = cc in absurd (omega arith))
+      fits (Some body) s f = (s, λ (t : missing (Mixed mask) i (stride l) ≡ true). cc)
       fits None s f = f
 
   across-fits : (i n j many : ℕ) → ((k : ℕ) → k < many → (i + k) % stride l ≡ j + k) → AllFit l (Mixed mask) i (across (body_length l) cs rs n (4 + j) many)

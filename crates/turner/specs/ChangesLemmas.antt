@@ -1,12 +1,9 @@
 -- What is written into bodies.
-use Rattle.std.specs.Prelude.{◌≡◌, ℕ, ◌+◌, ◌-◌, ◌<◌, ◌≤◌, List, length, drop, slice_index, refl}
-use Rattle.std.proofs.Common.{arith, length-set}
-use Rattle.std.proofs.lemmas.List.{at_drop_more, at_drop_all}
-use Rattle.std.proofs.lemmas.Bool.Decides.{nat_tests}
-use Rattle.records.specs.Bands.{weight}
+use Rattle.std.specs.Prelude.{◌≡◌, ℕ, length, refl}
+use Rattle.std.proofs.Common.{length-set}
 use Rattle.machine.specs.declared.accepted.Accepted.{Accepted}
 use Rattle.survey.specs.Recordings.{Body}
-use Rattle.turner.specs.Changes.{mask_of, header_changed, changed}
+use Rattle.turner.specs.Changes.{header_changed, changed}
 use Rattle.turner.specs.declared.piece.Piece.{Piece}
 use Rattle.turner.specs.declared.piece.Piece.TheVariants.{Mark, Directory, Header, Attribute, Image, Trailer}
 use Rattle.turner.specs.declared.shape.Order.{Order}

@@ -8,9 +8,7 @@ use Rattle.std.proofs.lemmas.Bool.Decides.{nat_tests}
 use Rattle.deck.specs.Answers.{kind_of}
 use Rattle.deck.specs.Tape.{Block, written, mark, bad, TapeSet, SoundBlock, SoundBlocks, Sound, nth, from_one, look}
 use Rattle.deck.specs.declared.Kind.TheVariants as kinds
-use Rattle.records.specs.Layouts.{attributes, record_length, stride}
-use Rattle.records.specs.declared.layout.Form.{Form}
-use Rattle.records.specs.declared.layout.Form.TheVariants.{Interleaved, Sequential, Vidicon}
+use Rattle.records.specs.Layouts.{attributes, stride}
 use Rattle.records.specs.declared.layout.Layout.{Layout}
 use Rattle.machine.specs.Findings.{place_of}
 use Rattle.machine.specs.declared.accepted.Accepted.{Accepted}
@@ -25,7 +23,7 @@ use Rattle.turner.specs.Bounds.{first_group, small}
 use Rattle.turner.specs.Shapes.{groups, groups_in, images_in, sheets}
 use Rattle.turner.specs.Shown.{source, bears, readable, body_from, record_block, source_block, piece_block, shown_reel, shown, borne, found, found_kind, shown_kind}
 use Rattle.turner.specs.declared.piece.Piece.{Piece}
-use Rattle.turner.specs.declared.piece.Piece.TheVariants.{Mark, Directory, Header, Attribute, Image, Trailer}
+use Rattle.turner.specs.declared.piece.Piece.TheVariants.{Mark}
 use Rattle.turner.specs.declared.shape.Order.{Order}
 use Rattle.turner.specs.declared.shape.Order.TheVariants.{ByLine, ByBand}
 use Rattle.turner.specs.declared.shape.Turning.{Turning}
@@ -60,13 +58,13 @@ at_piece o t set reel block q e p = ap (λ x. look (shown x set) reel block) e �
 -- A body that is delivered has the length of its record without the six bytes.
 whole_if : (size : ℕ) (xs body : List ℕ) (b : Bool) → (length xs == size) ≡ b → cond {A = Delivery} b (Ok (drop 6 xs)) (Err 46) ≡ Ok body → length body ≡ size - 6
 whole_if size xs body true e h = let is : drop 6 xs ≡ body = cc in sym (ap length is) ∙ length-drop 6 xs ∙ ap (λ k. k - 6) (eqb-true (length xs) size e)
-whole_if size xs body false e h = let z : ◌≡◌ {A = ℕ} 0 1 = cc in absurd (omega arith)
+whole_if size xs body false e h = cc
 
 whole : (size : ℕ) (o : Option Block) (body : Body) → body_of size o ≡ Ok body → length body ≡ size - 6
-whole size None body h = let z : ◌≡◌ {A = ℕ} 0 1 = cc in absurd (omega arith)
+whole size None body h = cc
 whole size (Some (written xs)) body h = whole_if size xs body (length xs == size) refl h
-whole size (Some mark) body h = let z : ◌≡◌ {A = ℕ} 0 1 = cc in absurd (omega arith)
-whole size (Some bad) body h = let z : ◌≡◌ {A = ℕ} 0 1 = cc in absurd (omega arith)
+whole size (Some mark) body h = cc
+whole size (Some bad) body h = cc
 
 whole_at : (set : TapeSet) (s : Spot) (size : ℕ) (body : Body) → body_at set (Some s) size ≡ Ok body → length body ≡ size - 6
 whole_at set s size body h = whole size (look set s.reel s.block) body h
@@ -99,12 +97,12 @@ module _ (f : Body → Body) (keeps : (body : Body) → length (f body) ≡ leng
 
   read_whole : (set : TapeSet) (s : Spot) (size : ℕ) (body : Body) (d : Delivery) → body_at set (Some s) size ≡ d → readable d ≡ Some body → length body ≡ size - 6
   read_whole set s size body (Ok b) e h = let is : b ≡ body = cc in sym (ap length is) ∙ whole_at set s size b e
-  read_whole set s size body (Err n) e h = let z : ◌≡◌ {A = ℕ} 0 1 = cc in absurd (omega arith)
+  read_whole set s size body (Err n) e h = cc
 
   from_whole : (set : TapeSet) (size : ℕ) (o : Origin) (body : Body) → body_from set size o ≡ Some body → length body ≡ size - 6
   from_whole set size Zero body e = zero_whole size body e
   from_whole set size (Below s) body e = read_whole set s size body (body_at set (Some s) size) refl e
-  from_whole set size Nowhere body e = let z : ◌≡◌ {A = ℕ} 0 1 = cc in absurd (omega arith)
+  from_whole set size Nowhere body e = cc
 
   pub sound_source : (set : TapeSet) (source : Option Source) → SoundBlock (source_block f set source)
   sound_source set None = tt

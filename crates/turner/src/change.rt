@@ -18,7 +18,7 @@ fn put(body: &mut [u8], byte: usize, value: u8)
     }
 }
 
-// The byte that tells the order.
+// The byte that tells the order. A form has the same one, but an order's form would be a match as long as this.
 fn order_byte(order: Order) -> u8
     ensures { result ≡ order_byte order }
 {

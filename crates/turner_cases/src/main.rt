@@ -4,21 +4,19 @@
 
 use anyhow::anyhow;
 use deck::Deck;
-use image::Strip;
+use image::{Image, Strip};
 use listing::{refusal, tape};
 use std::fs;
 use turner::Turner;
-use turning::{Turned, strip_bytes, strip_turned};
+use turning::{strip_bytes, strip_turned};
 
 // The sum of all bytes, each times its place counted from 1, modulo 2^32.
 fn checksum(bytes: &[u8]) -> u32 {
-    let mut place: u32 = 0;
-    let mut sum: u32 = 0;
-    for byte in bytes {
-        place = place.wrapping_add(1);
-        sum = sum.wrapping_add(place.wrapping_mul(u32::from(*byte)));
+    let mut sum: u64 = 0;
+    for (i, byte) in bytes.iter().enumerate() {
+        sum = sum.wrapping_add((i as u64 + 1).wrapping_mul(u64::from(*byte)));
     }
-    sum
+    (sum & 0xffff_ffff) as u32
 }
 
 // A strip: its length, its checksum and what is listed of it.
@@ -57,9 +55,9 @@ fn read(rt: &HostRuntime, name: &str) -> anyhow::Result<Vec<u8>> {
 
 fn case(rt: &HostRuntime, words: &[&str]) -> anyhow::Result<()> {
     match words {
-        ["turn", name] => match strip_turned(rt.alloc(), read(rt, name)?)? {
-            Turned::Strip(bytes) => show(rt, bytes),
-            Turned::Refused(line) => Ok(rt.print(line)?),
+        ["turn", name] => match strip_turned(rt.alloc(), read(rt, name)?) {
+            Ok(strip) => show(rt, strip),
+            Err(refused) => Ok(rt.print(refused.line(rt.alloc())?)?),
         },
         ["pile", count, name] => match Strip::open(read(rt, name)?) {
             Ok(strip) => pile(rt, count, strip),

@@ -1,6 +1,7 @@
 -- How many blocks of a reel, and how many reels of a set, have been written.
 use Rattle.std.proofs.Common.{◌≡◌, ℕ, zero, suc, ◌+◌, ◌<◌, ◌≤◌, List, [], ◌∷◌, ◌++◌, length, drop, Some, None, Option, sym, refl, ap, ◌∙◌, append_assoc, append-nil, arith}
 use Rattle.std.specs.List.{flat_map}
+use Rattle.std.proofs.lemmas.List.{at_drop_all}
 use Rattle.deck.specs.Tape.{Reel, TapeSet, nth, from_one, look_on, look}
 use Rattle.image.specs.Strip.{block_bytes, reel_bytes, encoded}
 use Rattle.listing.specs.Blocks.{reel_or_none, reel_of}
@@ -17,14 +18,14 @@ on now set reel block o stays e = e ∙ ap (λ s. block_at (look s reel block)) 
 
 -- The block at a place, or the end.
 there : (xs : Reel) (n : ℕ) (bytes : List ℕ) → Some bytes ≡ block_at (nth xs n) → (n < length xs) × (flat_map block_bytes (drop n xs) ≡ bytes ++ flat_map block_bytes (drop (suc n) xs))
-there [] n bytes e = let z : ◌≡◌ {A = ℕ} 0 1 = cc in absurd (omega arith)
+there [] n bytes e = cc
 there (x ∷ xs) zero bytes e = let is : block_bytes x ≡ bytes = cc in (omega arith, ap (λ b. b ++ flat_map block_bytes xs) is)
 there (x ∷ xs) (suc n) bytes e = let h = there xs n bytes e in (omega (arith, h.0), h.1)
 
 behind : (xs : Reel) (n : ℕ) → None ≡ block_at (nth xs n) → flat_map block_bytes (drop n xs) ≡ []
 behind [] zero e = refl
 behind [] (suc n) e = refl
-behind (x ∷ xs) zero e = let z : ◌≡◌ {A = ℕ} 0 1 = cc in absurd (omega arith)
+behind (x ∷ xs) zero e = cc
 behind (x ∷ xs) (suc n) e = behind xs n e
 
 -- The bytes are those of the blocks before the block `block`.
@@ -35,9 +36,6 @@ pub record Going (xs : Reel) (block : ℕ) (bytes : List ℕ) : Type 0 where
 
 pub going_start : (xs : Reel) → Going xs 1 []
 going_start xs = record { at = 0; is = refl; so_far = refl }
-
-pub going_inside : (xs : Reel) (block : ℕ) (bytes line : List ℕ) → Going xs block bytes → Some line ≡ block_at (from_one xs block) → block ≤ length xs
-going_inside xs block bytes line g e = omega (arith, g.is, (there xs g.at line (e ∙ ap (λ n. block_at (from_one xs n)) g.is)).0)
 
 pub going_next : (xs : Reel) (block : ℕ) (bytes line after : List ℕ) → Going xs block bytes → Some line ≡ block_at (from_one xs block) → after ≡ bytes ++ line → Going xs (block + 1) after
 going_next xs block bytes line after g e a =
@@ -53,17 +51,14 @@ pub going_done : (xs : Reel) (block : ℕ) (bytes : List ℕ) → Going xs block
 going_done xs block bytes g e =
     sym (append-nil bytes) ∙ ap (λ t. bytes ++ t) (sym (behind xs g.at (e ∙ ap (λ n. block_at (from_one xs n)) g.is))) ∙ g.so_far
 
+pub going_all : (xs : Reel) (block : ℕ) (bytes : List ℕ) → Going xs block bytes → length xs < block → bytes ≡ flat_map block_bytes xs
+going_all xs block bytes g h = sym (append-nil bytes) ∙ ap (λ t. bytes ++ t) (sym (at_drop_all (flat_map block_bytes) xs g.at (omega (arith, g.is)))) ∙ g.so_far
+
 -- The bytes are those of the reels before the reel `reel`.
 next_reel : (set : TapeSet) (i : ℕ) → i < length set → encoded (drop i set) ≡ reel_bytes (reel_or_none (nth set i)) ++ encoded (drop (suc i) set)
 next_reel [] i h = absurd (omega arith)
 next_reel (reel ∷ set) zero h = refl
 next_reel (reel ∷ set) (suc i) h = next_reel set i (omega arith)
-
-no_reel : (set : TapeSet) (i : ℕ) → length set ≤ i → encoded (drop i set) ≡ []
-no_reel [] zero h = refl
-no_reel [] (suc i) h = refl
-no_reel (reel ∷ set) zero h = absurd (omega arith)
-no_reel (reel ∷ set) (suc i) h = no_reel set i (omega arith)
 
 pub record Written (set : TapeSet) (reel : ℕ) (bytes : List ℕ) : Type 0 where
   pub at : ℕ
@@ -87,4 +82,4 @@ written_next set now reel bytes line after w h stays e a =
     }
 
 pub written_all : (set : TapeSet) (reel : ℕ) (bytes : List ℕ) → Written set reel bytes → length set < reel → bytes ≡ encoded set
-written_all set reel bytes w h = sym (append-nil bytes) ∙ ap (λ t. bytes ++ t) (sym (no_reel set w.at (omega (arith, w.is)))) ∙ w.so_far
+written_all set reel bytes w h = sym (append-nil bytes) ∙ ap (λ t. bytes ++ t) (sym (at_drop_all encoded set w.at (omega (arith, w.is)))) ∙ w.so_far

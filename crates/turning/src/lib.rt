@@ -4,5 +4,5 @@
 mod turned;
 mod writing;
 
-pub use turned::{Turned, strip_turned};
+pub use turned::{TurnError, strip_turned};
 pub use writing::strip_bytes;

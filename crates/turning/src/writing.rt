@@ -6,22 +6,15 @@ ghost use Rattle.image.specs.Strip.{encoded, reel_bytes};
 ghost use Rattle.turning.specs.Written.{record_bytes, told_bytes, block_at};
 ghost use Rattle.listing.specs.Blocks.{reel_of};
 
-use deck::{Deck, Kind, LONGEST_RECORD};
+use deck::{Deck, Kind, LONGEST_RECORD, MOST_BLOCKS};
+use image::{BAD, MARK, REEL_END};
 use std::alloc::{AllocError, Global};
-
-// The kind words of a mark and a bad block, and the word behind a reel.
-const MARK: u32 = 0;
-
-const BAD: u32 = 4294967295;
-
-const REEL_END: u32 = 4294967294;
 
 // A word of four bytes.
 fn word_bytes(heap: Global, value: u32) -> Result<Vec<u8>, AllocError>
     ensures { IfOk result (λ v. v.items ≡ word value) }
 {
-    let [a, b, c, d] = value.to_be_bytes();
-    Ok(vec![in heap; a, b, c, d]?)
+    Ok(Vec::from_array(heap, value.to_be_bytes())?)
 }
 
 // A record between two words of its length.
@@ -29,11 +22,11 @@ fn record_bytes(heap: Global, content: &[u8]) -> Result<Vec<u8>, AllocError>
     requires { length content.now ≤ 5388 }
     ensures { IfOk result (λ v. v.items ≡ record_bytes content.now) }
 {
-    let length = word_bytes(heap, content.len() as u32)?;
+    let length = (content.len() as u32).to_be_bytes();
     let mut bytes = Vec::new(heap);
-    bytes.extend_from_slice(length.as_slice())?;
+    bytes.extend_from_slice(&length)?;
     bytes.extend_from_slice(content)?;
-    bytes.extend_from_slice(length.as_slice())?;
+    bytes.extend_from_slice(&length)?;
     Ok(bytes)
 }
 
@@ -49,10 +42,10 @@ fn block_bytes<D: Deck>(
 {
     let mut buffer = [0; LONGEST_RECORD];
     match deck.fetch(reel, block, &mut buffer) {
-        Ok(Kind::Record(length)) => Ok(Some(record_bytes(heap, &buffer[..length])?)),
-        Ok(Kind::Mark) => Ok(Some(word_bytes(heap, MARK)?)),
-        Ok(Kind::Bad) => Ok(Some(word_bytes(heap, BAD)?)),
-        Ok(Kind::Absent) => Ok(None),
+        Ok(Some(Kind::Record(length))) => Ok(Some(record_bytes(heap, &buffer[..length])?)),
+        Ok(Some(Kind::Mark)) => Ok(Some(word_bytes(heap, MARK)?)),
+        Ok(Some(Kind::Bad)) => Ok(Some(word_bytes(heap, BAD)?)),
+        Ok(None) => Ok(None),
         Err(_) => Ok(None),
     }
 }
@@ -63,13 +56,13 @@ fn reel_bytes<D: Deck>(heap: Global, deck: &mut D, reel: u32) -> Result<Vec<u8>,
     ensures bytes { IfOk result (λ v. v.items ≡ reel_bytes (reel_of (D.meaning deck.old) reel)) }
 {
     let mut bytes = Vec::new(heap);
-    let mut block = 1;
-    while let Some(stored) = block_bytes(heap, deck, reel, block)? {
+    for block in 1..=MOST_BLOCKS {
+        let Some(stored) = block_bytes(heap, deck, reel, block)? else {
+            break;
+        };
         bytes.extend_from_slice(stored.as_slice())?;
-        block += 1;
     }
-    let end = word_bytes(heap, REEL_END)?;
-    bytes.extend_from_slice(end.as_slice())?;
+    bytes.extend_from_slice(&REEL_END.to_be_bytes())?;
     Ok(bytes)
 }
 
@@ -79,8 +72,7 @@ pub fn strip_bytes<D: Deck>(heap: Global, deck: &mut D) -> Result<Vec<u8>, Alloc
     ensures bytes { IfOk result (λ v. v.items ≡ encoded (D.meaning deck.old)) }
 {
     let mut bytes = Vec::new(heap);
-    let reels = deck.reels();
-    for reel in 1..reels + 1 {
+    for reel in 1..=deck.reels() {
         let written = reel_bytes(heap, deck, reel)?;
         bytes.extend_from_slice(written.as_slice())?;
     }

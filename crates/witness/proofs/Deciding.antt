@@ -1,7 +1,6 @@
 -- Two answers are equal exactly where all that they say is, and their buffers are, byte by byte.
 use Rattle.std.proofs.Common.{◌≡◌, ℕ, ◌-◌, ◌/◌, ◌==◌, Bool, false, ◌&&◌, Ok, Err, Result, Decides, sym, refl, ap, ◌∙◌, true≢false, vec_items, arith}
 use Rattle.std.specs.Cmp.Lexicographic.{pointwise}
-use Rattle.std.specs.Result.{result_eq}
 use Rattle.std.proofs.lemmas.Bool.Decides.{Decides-eqb}
 use Rattle.std.proofs.lemmas.Slice.Eq.{slice_eq-Decides}
 use denote.Enum.Bare.{Bare, sameb, same_true}
@@ -30,7 +29,6 @@ use Rattle.survey.specs.contracts.fault.TapeFaultPartialEq.TheImpl as faults_eq
 use Rattle.survey.specs.declared.fault.TapeFault.{TapeFault}
 use Rattle.reader.specs.Answers.{summary, sensor_letter, correction_letter, code, delivered, counted, refused, outlined, told_answer}
 use Rattle.reader.specs.Refusals.{caller_number, told_refusal}
-use Rattle.reader.specs.contracts.call.AnswerPartialEq.TheImpl as answers_eq
 use Rattle.reader.specs.contracts.call.OutlinePartialEq.TheImpl as outlines_eq
 use Rattle.reader.specs.contracts.refusal.CallerFault.{the_type as caller_faults}
 use Rattle.reader.specs.contracts.refusal.RefusalPartialEq.TheImpl as refusals_eq
@@ -41,8 +39,8 @@ use Rattle.reader.specs.declared.refusal.CallerFault.{CallerFault}
 use Rattle.reader.specs.declared.refusal.CallerFault.TheVariants as callers
 use Rattle.reader.specs.declared.refusal.Refusal.{Refusal}
 use Rattle.reader.specs.declared.refusal.Refusal.TheVariants.{Tape, Caller}
+use Rattle.witness.specs.Comparing.{same_answer, same_answered}
 use Rattle.witness.specs.Replies.{answered}
-use Rattle.witness.specs.contracts.calls.AnsweredPartialEq.TheImpl as answered_eq
 use Rattle.witness.specs.declared.calls.Answered.{Answered}
 use Rattle.witness.proofs.Alike.{both}
 use Rattle.witness.proofs.Runs.{pair}
@@ -145,9 +143,6 @@ outline_decides x y =
     (five (sensor_letter x.sensor) x.mission (correction_letter x.correction) x.bands x.lines (sensor_letter y.sensor) y.mission (correction_letter y.correction) y.bands y.lines)
     (λ h. (cc, (cc, (cc, (cc, cc)))))
 
-abbrev same_answer : Result Answer Refusal → Result Answer Refusal → Bool
-same_answer = result_eq (answers_eq.ghosts).eq (refusals_eq.ghosts).eq
-
 -- An answer is told in numbers, and two are equal exactly where these are.
 abbrev Tells : Result Answer Refusal → Result Answer Refusal → Type 0
 Tells x y = told_answer x ≡ told_answer y
@@ -171,7 +166,7 @@ answer_decides (Ok x) (Err r) = never (not_refused x r)
 answer_decides (Err r) (Ok x) = never (λ e. not_refused x r (sym e))
 answer_decides (Err r) (Err s) = by_equal (refusal_decides r s) (λ e. ap refused e) (λ e. cc)
 
-pub answered_decides : (x y : Answered) → Decides ((answered_eq.ghosts).eq x y) (answered x ≡ answered y)
+pub answered_decides : (x y : Answered) → Decides (same_answered x y) (answered x ≡ answered y)
 answered_decides x y =
     both (same_answer x.answer y.answer) (pointwise ◌==◌ (vec_items x.buffer) (vec_items y.buffer)) (answer_decides x.answer y.answer)
     (slice_eq-Decides Decides-eqb (vec_items x.buffer) (vec_items y.buffer) (pointwise ◌==◌ (vec_items x.buffer) (vec_items y.buffer)) refl)

@@ -1,3 +1,4 @@
 pub mod Replies
 pub mod Pictured
 pub mod Promises
+pub mod Comparing

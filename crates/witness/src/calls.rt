@@ -22,7 +22,7 @@ pub struct Answered {
     pub buffer: Vec<u8>,
 }
 
-// What two readers answered, and whether they answered alike.
+// What two readers answered, and whether they answered alike: the lists are handed out in either case, so the flag stands beside them.
 #[derive(Drop)]
 pub struct Twins {
     pub first: Vec<Answered>,

@@ -1,22 +1,12 @@
 // The words of an indexed image's header, with their checks.
 ghost use Rattle.std.specs.Prelude.{◌≡◌, ◌+◌, ◌*◌, ◌≤◌, IfOk};
-ghost use Rattle.image.specs.Indexed.{first_entry, header, passed, row, whole, reel_count, block_count, block_total, entry, verdict};
+ghost use Rattle.image.specs.Indexed.{first_entry, header, passed, row, reel_count, block_count, block_total, entry, verdict};
 ghost use Rattle.image.specs.Stored.{numbered};
 
 use super::super::refusal::{Cause, Refusal, refused};
 use super::super::stored::stored_by;
-use super::super::word::word_at;
+use super::super::word::whole_word;
 use deck::{Kind, MOST_BLOCKS, MOST_REELS};
-
-// The word at a place, which is whole.
-fn whole_word(bytes: &[u8], at: usize) -> Result<u32, Refusal>
-    ensures { numbered result ≡ whole bytes.now at }
-{
-    match word_at(bytes, at) {
-        Some(word) => Ok(word),
-        None => refused(Cause::CutShort, at),
-    }
-}
 
 // The number of reels.
 fn reel_count(bytes: &[u8]) -> Result<usize, Refusal>
@@ -52,18 +42,11 @@ fn check_entry(bytes: &[u8], header: usize, at: usize) -> Result<(), Refusal>
     let kind = whole_word(bytes, at + 4)?;
     match stored_by(kind) {
         None => refused(Cause::IllegalWord, at + 4),
-        Some(Kind::Record(length)) => {
-            if offset < header || bytes.len() < offset + length {
-                return refused(Cause::OutsideImage, at + 4);
-            }
-            Ok(())
+        Some(Kind::Record(length)) if offset < header || bytes.len() < offset + length => {
+            refused(Cause::OutsideImage, at + 4)
         }
-        Some(_) => {
-            if offset != 0 {
-                return refused(Cause::IllegalWord, at + 4);
-            }
-            Ok(())
-        }
+        Some(Kind::Mark | Kind::Bad) if offset != 0 => refused(Cause::IllegalWord, at + 4),
+        Some(_) => Ok(()),
     }
 }
 

@@ -17,6 +17,7 @@ impl Image for Indexed {
 
     ghost means = { λ i. is_set (verdict (vec_items i.bytes)) i.judged };
 
+    #[tactic(auto, using(crate::proofs::Listings::exactly_passed, crate::proofs::Listings::exactly_stopped))]
     fn open(bytes: Vec<u8>) -> Result<Indexed, Unopened> {
         match check(bytes.as_slice()) {
             Ok(()) => Ok(Indexed { bytes }),

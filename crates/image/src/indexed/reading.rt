@@ -12,6 +12,7 @@ use deck::{Deck, Kind, Short};
 
 impl Indexed {
     // How many reels the image has.
+    #[tactic(auto, using(crate::proofs::Listings::is_image))]
     fn reel_count(&self) -> u32
         ensures { result ≡ length (indexed_set self.now) }
     {
@@ -19,6 +20,7 @@ impl Indexed {
     }
 
     // How many blocks a reel has, counted from 0.
+    #[tactic(auto, using(crate::proofs::Listings::is_image, deck::proofs::Looks::reel_sound))]
     fn block_count(&self, reel: usize) -> u32
         requires { reel < length (indexed_set self.now) }
         ensures counts { result ≡ length (slice_index_or (indexed_set self.now) reel []) }
@@ -28,6 +30,7 @@ impl Indexed {
     }
 
     // How many blocks the reels before one have together.
+    #[tactic(auto, using(crate::proofs::Listings::is_image))]
     fn blocks_before(&self, reel: usize) -> usize
         requires { reel ≤ length (indexed_set self.now) }
         ensures counts { result ≡ length (blocks (take reel (indexed_set self.now))) }
@@ -41,6 +44,7 @@ impl Indexed {
     }
 
     // A block, reel and block counted from 1, its bytes lent.
+    #[tactic(auto, using(crate::proofs::Listings::listed_there))]
     fn find(&self, reel: u32, block: u32) -> Option<Kind<&[u8]>>
         ensures { seen result ≡ look (indexed_set self.now) reel block }
     {

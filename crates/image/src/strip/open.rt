@@ -18,6 +18,7 @@ impl Image for Strip {
 
     ghost means = { λ s. is_set (verdict (vec_items s.bytes)) s.judged };
 
+    #[tactic(auto, using(crate::proofs::Openings::exactly_opened, crate::proofs::Openings::exactly_refused))]
     fn open(bytes: Vec<u8>) -> Result<Strip, Unopened> {
         match scan(bytes.as_slice()) {
             Ok(chart) => {

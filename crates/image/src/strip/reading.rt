@@ -10,6 +10,7 @@ use deck::{Deck, Kind, Short};
 
 impl Strip {
     // How many blocks a reel has, counted from 0, if there is such a reel.
+    #[tactic(auto, using(crate::proofs::Charts::reels_counted, crate::proofs::Charts::charted_span))]
     fn block_count(&self, reel: usize) -> Option<u32>
         ensures { MatchOption result (length (strip_set self.now) ≤ reel) (λ n. (reel < length (strip_set self.now)) × (n ≡ length (slice_index_or (strip_set self.now) reel []))) }
     {
@@ -17,6 +18,7 @@ impl Strip {
     }
 
     // Winds to a block, reel and block counted from 1, and answers where it lies, if there is such a block.
+    #[tactic(auto, using(crate::proofs::Places::found_there))]
     fn wind_to(&mut self, reel: u32, block: u32) -> Option<usize>
         ensures stays { self.new.bytes ≡ self.old.bytes }
         ensures finds { found_where self.old.bytes.items result ≡ look (strip_set self.old) reel block }
@@ -36,6 +38,7 @@ impl Deck for Strip {
 
     ghost sound = { λ s. s.sound };
 
+    #[tactic(auto, using(crate::proofs::Charts::reels_counted))]
     fn reels(&mut self) -> u32 {
         self.chart.len() as u32
     }

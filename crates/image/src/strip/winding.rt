@@ -8,6 +8,7 @@ use super::Strip;
 
 impl Strip {
     // To the beginning of a reel, unless the cursor is on that reel.
+    #[tactic(auto, using(crate::proofs::Charts::reels_counted, crate::proofs::Charts::charted_span))]
     fn turn_to(&mut self, reel: usize)
         requires { reel < length (strip_set self.old) }
         ensures stays { self.new.bytes ≡ self.old.bytes }
@@ -23,6 +24,7 @@ impl Strip {
     }
 
     // Over the block that the cursor is on.
+    #[tactic(auto, using(crate::proofs::Places::on_there, crate::proofs::Options::some_same, deck::proofs::Looks::reel_sound))]
     fn on(&mut self)
         requires { self.old.cursor.block < length (slice_index_or (strip_set self.old) self.old.cursor.reel []) }
         ensures stays { self.new.bytes ≡ self.old.bytes }
@@ -38,6 +40,7 @@ impl Strip {
     }
 
     // Back over the block before the cursor.
+    #[tactic(auto, using(crate::proofs::Places::behind_there, crate::proofs::Options::some_same))]
     fn back(&mut self)
         requires { 0 < self.old.cursor.block }
         ensures stays { self.new.bytes ≡ self.old.bytes }

@@ -9,4 +9,4 @@ invariant-loop-reel g l =
     let meaning = g.D.Deck.meaning in
     let set = meaning l.initial.deck in
     (meaning l.deck ≡ set)
-    × (feed l.machine l.reel (from_reel set l.reel) ≡ feed (start (length set)) 1 set)
+    × (feed l.reading.machine l.reel (from_reel set l.reel) ≡ feed (start (length set)) 1 set)

@@ -1,22 +1,11 @@
-use Rattle.std.proofs.Common.{length, Some, None, sym, ap, ◌∙◌}
+use Rattle.std.proofs.Common.{length, Some, sym, ap, ◌∙◌}
 use Rattle.deck.specs.Answers.{fetched, filled}
 use Rattle.deck.specs.Tape.{look}
 use Rattle.reader.specs.Bodies.{body_of}
 use Rattle.turner.specs.Shown.{readable, record_block}
-use Rattle.turner.specs.declared.delivery.Found.TheVariants.{Blank, Borne}
+use Rattle.turner.specs.declared.delivery.Found.TheVariants.{Borne}
 use Rattle.turner.proofs.Deliveries.{source_found}
 use Rattle.turner.proofs.delivery.fetch_from.Goals as goal
-
-pub returns-in-Some-Blank : goal.returns-in-Some-Blank
-returns-in-Some-Blank g c =
-    let set = g.D.Deck.meaning c.args.deck.now in
-    let buffer = c.args.buffer.now in
-    let same = source_found set c.args.source c.in-Some.source (Some Blank) c.in-Some.is (sym c.find.ensures.value ∙ c.in-Some-Blank.is ∙ ap Some c.in-Some-Blank.field-0-is) in
-    record {
-      stays = c.find.ensures.stays;
-      value = c.zero_record.ensures.value ∙ ap (λ b. fetched (Some b) (length buffer)) same;
-      bytes = c.zero_record.ensures.bytes ∙ ap (λ b. filled (Some b) buffer) same;
-    }
 
 pub returns-in-Some-Borne : goal.returns-in-Some-Borne
 returns-in-Some-Borne g c =

@@ -4,8 +4,7 @@ use Rattle.fieldlist.proofs.list.FieldList.band_annotations.Given as goal
 
 abbrev pub invariant-loop-index : goal.invariant-loop-index
 invariant-loop-index g l =
-    (g.D.Deck.meaning l.self.reader.deck ≡ g.D.Deck.meaning l.initial.self.reader.deck)
-    × (l.self.reader.accepted ≡ l.initial.self.reader.accepted)
+    (l.self ≡ l.initial.self)
     × (1 ≤ l.index)
     × (l.index ≤ l.count + 1)
-    × (string_bytes l.text ≡ annotations_to (g.D.Deck.meaning l.initial.self.reader.deck) l.initial.self.reader.accepted (l.index - 1) l.code)
+    × (string_bytes l.text ≡ annotations_to l.initial.self.set l.initial.self.accepted (l.index - 1) l.code)

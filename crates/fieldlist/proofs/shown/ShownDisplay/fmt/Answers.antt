@@ -13,9 +13,10 @@ returns-else-is_plain-clause-writes g c =
     let f = c.args.f.now in
     let after = c.write-else-is_plain.new.self in
     let two = digit_glyph false (b / 16) ∷ digit_glyph false (b % 16) ∷ [] in
+    let spec = format_spec 32 0 4 2 (2 ^ 64 - 1) in
     let written : styled_digits_output c.in_radix.result c.laid_out.result ≡ Some two =
-    ap (styled_digits_output c.in_radix.result) c.laid_out.ensures
-    ∙ ap (option_map (padded_integral (format_spec 32 0 4 2 (2 ^ 64 - 1)) false [])) c.in_radix.ensures
+    ap (styled_digits_output c.in_radix.result) {y = spec} c.laid_out.ensures
+    ∙ ap (option_map (padded_integral spec false [])) c.in_radix.ensures
     ∙ ap Some (hex_byte false b (omega arith)) in
     let text : shown_byte b ≡ 92 ∷ two = cond-false (plain b) (b ∷ []) (92 ∷ two) (sym c.is_plain.ensures ∙ c.if-is_plain.false) in
     λ whole ok. subst (λ t. HasWritten took f t after) (sym text)

@@ -1,5 +1,5 @@
 use Rattle.turner.proofs.Keeping.{keeps}
 use Rattle.turner.proofs.showing.Turner.new.Goals as goal
 
-pub returns : goal.returns
-returns g c = record { keeps = c.surveyed.ensures.keeps; means = c.surveyed.ensures.means; law = keeps (g.D.Deck.meaning c.args.deck) }
+pub returns-clause-law : goal.returns-clause-law
+returns-clause-law g c = keeps (g.D.Deck.meaning c.args.deck)

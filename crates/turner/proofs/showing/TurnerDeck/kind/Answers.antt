@@ -1,28 +1,22 @@
-use Rattle.std.proofs.Common.{Some, None, sym, refl, ap, ◌∙◌}
+use Rattle.std.proofs.Common.{Some, None, sym, ap, ◌∙◌}
 use Rattle.deck.specs.Answers.{kind_of}
 use Rattle.turner.specs.Changes.{changed}
-use Rattle.turner.specs.Shown.{source_block, shown}
+use Rattle.turner.specs.Shown.{source_block}
 use Rattle.turner.specs.ChangesLemmas.{length_changed}
 use Rattle.turner.specs.Sounds.{at_piece, kind_shown}
 use Rattle.turner.proofs.showing.TurnerDeck.kind.Goals as goal
 
-pub returns-in_err-piece : goal.returns-in_err-piece
-returns-in_err-piece g c =
+pub returns-in_err-piece-clause-value : goal.returns-in_err-piece-clause-value
+returns-in_err-piece-clause-value g c =
     let set = g.D.Deck.meaning c.args.self.now.deck in
-    let lacks = at_piece c.args.self.now.turning c.in-Some.turning set c.args.reel c.args.block None c.in-Some.is (sym c.in_err-piece.was ∙ c.piece_on.ensures) in
-    record { stays = refl; value = c.from_residual.ensures ∙ sym (ap kind_of lacks) }
+    c.from_residual.ensures ∙ sym (ap kind_of (at_piece c.args.self.now.turning c.in-Some.turning set c.args.reel c.args.block None c.in-Some.is (sym c.in_err-piece.was ∙ c.piece_on.ensures)))
 
-pub returns : goal.returns
-returns g c =
+pub returns-clause-value : goal.returns-clause-value
+returns-clause-value g c =
     let set = g.D.Deck.meaning c.args.self.now.deck in
     let turning = c.in-Some.turning in
     let piece = c.in_ok-piece.piece in
-    let stands = at_piece c.args.self.now.turning turning set c.args.reel c.args.block (Some piece) c.in-Some.is (sym c.in_ok-piece.was ∙ c.piece_on.ensures) in
-    record {
-      stays = ap (shown c.args.self.now.turning) c.kind_from.ensures.stays;
-      value =
-          ap Some c.kind_from.ensures.value
-          ∙ kind_shown (changed turning piece) (length_changed turning piece) set c.source_of.result
-          ∙ ap (λ s. kind_of (Some (source_block (changed turning piece) set s))) c.source_of.ensures
-          ∙ sym (ap kind_of stands);
-    }
+    ap Some c.kind_from.ensures.value
+    ∙ kind_shown (changed turning piece) (length_changed turning piece) set c.source_of.result
+    ∙ ap (λ s. kind_of (Some (source_block (changed turning piece) set s))) c.source_of.ensures
+    ∙ sym (ap kind_of (at_piece c.args.self.now.turning turning set c.args.reel c.args.block (Some piece) c.in-Some.is (sym c.in_ok-piece.was ∙ c.piece_on.ensures)))
