@@ -9,7 +9,7 @@ use std::alloc::{AllocError, Global};
 use witness::Asked;
 
 // A call: which one (1 survey, 2 band, 3 ident, 4 line, 5 sheet, any other tally), its arguments, and its buffer's length. Of the arguments
-// only those count that the call has; `number` is k, a line or an index.
+// only those count that the call has; `number` is k, a line or an index. All are numbers, since C writes them.
 #[repr(C)]
 #[derive(Clone, Copy)]
 pub struct Ask {

@@ -10,7 +10,7 @@ use deck::{Deck, Kind};
 use reader::Reader;
 use std::alloc::Global;
 
-// What is answered where memory does not suffice.
+// What is answered where memory does not suffice: a number, since it goes to C.
 pub const NO_MEMORY: u64 = u64::MAX;
 
 // A line of a band.
@@ -57,6 +57,7 @@ fn delivered<D: Deck>(reader: &mut Reader<D>, lines: &[WantedLine], buffer: &mut
     ensures writes { buffer.new ≡ after_lines (D.meaning reader.old.deck) reader.old.accepted (length buffer.old) lines.now buffer.old }
 {
     let mut count = 0;
+    // a loop, since the closure of a `map` and `sum` would change the reader and the buffer
     for wanted in lines {
         count += u64::from(delivers(reader, wanted, buffer));
     }
@@ -89,6 +90,7 @@ fn blocks_of<D: Deck + Drop>(deck: D, blocks: &[WantedBlock], buffer: &mut [u8])
 {
     let mut deck = deck;
     let mut count = 0;
+    // a loop, since the closure of a `map` and `sum` would change the deck and the buffer
     for wanted in blocks {
         count += u64::from(is_record(&mut deck, wanted, buffer));
     }

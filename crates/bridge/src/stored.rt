@@ -15,7 +15,7 @@ pub(crate) type Stored = Either<Strip, Indexed>;
 // Turners piled on a deck: none, or one or two.
 pub(crate) type Pile<D> = Either<D, Either<Turner<D>, Turner<Turner<D>>>>;
 
-// Opens an image: a strip for form 0, an indexed one for any other.
+// Opens an image: a strip for form 0, an indexed one for any other. The form is a number up to here, since it comes from C.
 pub(crate) fn opened(form: u8, bytes: Vec<u8>) -> Result<Stored, Unopened>
     ensures { told result ⟦<Stored as Deck>⟧.meaning ≡ opened form bytes.items }
 {
@@ -25,7 +25,7 @@ pub(crate) fn opened(form: u8, bytes: Vec<u8>) -> Result<Stored, Unopened>
     }
 }
 
-// Piles turners on a deck: none, one, or for any other number two.
+// Piles turners on a deck: none, one, or for any other number (which comes from C) two.
 pub(crate) fn piled<D: Deck>(turners: u8, deck: D) -> Pile<D>
     ensures { ⟦<Pile<D> as Deck>⟧.meaning result ≡ piled turners (D.meaning deck) }
 {

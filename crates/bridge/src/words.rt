@@ -86,7 +86,7 @@ fn closed(refusal: Refusal) -> Words
     ]
 }
 
-// All that goes over the border: the words of the answers, and the bytes of their buffers.
+// All that goes over the border: the words of the answers, and the bytes of their buffers. Two rows of different lengths, as C takes them.
 #[derive(Drop)]
 pub struct Told {
     pub words: Vec<u64>,

@@ -1,6 +1,6 @@
 // The fields of one line.
 ghost use Rattle.std.specs.Prelude.{◌≡◌, IfOk, string_bytes};
-ghost use Rattle.fieldlist.specs.Measured.{measured, line_text, wanted_text};
+ghost use Rattle.fieldlist.specs.Measured.{measured, line_name, line_text, wanted_text};
 
 use super::list::FieldList;
 use super::record_lines::{Subject, record_of};
@@ -9,7 +9,7 @@ use fields::FieldFault;
 use listing::band_name;
 use reader::{LONGEST_BODY, Outline};
 use records::{Correction, IMAGE, Sensor};
-use std::alloc::AllocError;
+use std::alloc::{AllocError, Global};
 
 // A line of a band, by the band's code and the line's number.
 #[derive(Clone, Copy)]
@@ -25,21 +25,27 @@ fn is_measured(sensor: Sensor, correction: Correction) -> bool
     matches!((sensor, correction), (Sensor::Mss, Correction::Uncorrected))
 }
 
+// How a line of a band is called.
+fn line_name(heap: Global, code: u8, line: u32) -> Result<String, AllocError>
+    ensures { IfOk result (λ t. string_bytes t ≡ line_name code line) }
+{
+    let band = band_name(heap, code)?;
+    format!(in heap; "LINE {band} {line}")
+}
+
 impl<D: Deck> FieldList<D> {
     // The fields of a line of a set that has this outline.
     fn line(&mut self, outline: Outline, wanted: Wanted) -> Result<String, AllocError>
         ensures { IfOk result (λ t. string_bytes t ≡ line_text self.old.set self.old.accepted outline wanted) }
     {
         let heap = self.heap;
-        let line = wanted.line;
-        let band = band_name(heap, wanted.band)?;
-        let name = format!(in heap; "LINE {band} {line}")?;
+        let name = line_name(heap, wanted.band, wanted.line)?;
         let subject = Subject {
             heap,
             name: name.as_str(),
         };
         let mut body = [0; LONGEST_BODY];
-        match self.reader.line(wanted.band, line, &mut body) {
+        match self.reader.line(wanted.band, wanted.line, &mut body) {
             Ok(length) => {
                 if !is_measured(outline.sensor, outline.correction) {
                     return subject.refused(FieldFault::Record.number());

@@ -1,7 +1,7 @@
 // The annotation records of the bands present.
 ghost use Rattle.std.specs.Prelude.{◌≡◌, IfOk, string_bytes};
 ghost use Rattle.listing.specs.Tapes.{each, present};
-ghost use Rattle.fieldlist.specs.Sheets.{annotation, annotations_to};
+ghost use Rattle.fieldlist.specs.Sheets.{annotation_name, annotation, annotations_to};
 
 use super::list::FieldList;
 use super::record_lines::{Subject, record_of};
@@ -9,10 +9,18 @@ use deck::Deck;
 use listing::band_name;
 use reader::{LONGEST_BODY, codes};
 use records::ANNOTATION;
-use std::alloc::AllocError;
+use std::alloc::{AllocError, Global};
 
 // The kind of annotation records among the sheets.
 const ANNOTATION_SHEET: u8 = 3;
+
+// How an annotation record is called.
+fn annotation_name(heap: Global, code: u8, index: u32) -> Result<String, AllocError>
+    ensures { IfOk result (λ t. string_bytes t ≡ annotation_name code index) }
+{
+    let band = band_name(heap, code)?;
+    format!(in heap; "ANNOTATION {band} {index}")
+}
 
 impl<D: Deck> FieldList<D> {
     // An annotation record of a band.
@@ -21,8 +29,7 @@ impl<D: Deck> FieldList<D> {
         ensures text { IfOk result (λ t. string_bytes t ≡ annotation self.old.set self.old.accepted code index) }
     {
         let heap = self.heap;
-        let band = band_name(heap, code)?;
-        let name = format!(in heap; "ANNOTATION {band} {index}")?;
+        let name = annotation_name(heap, code, index)?;
         let subject = Subject {
             heap,
             name: name.as_str(),

@@ -33,7 +33,7 @@ pub fn tape_fields<D: Deck + Drop>(
     }
 }
 
-// The fields of these bytes as a strip, their refusal, or `LONG` where there are too many.
+// The fields of these bytes as a strip, their refusal, or `LONG` where there are too many. One function for this and `listing::strip_tape` would take a closure, and have to require that it may be called.
 pub fn strip_fields(
     heap: Global,
     bytes: Vec<u8>,

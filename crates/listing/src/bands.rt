@@ -15,6 +15,7 @@ fn readable<D: Deck>(reader: &mut Reader<D>, code: u8, lines: u32) -> u32
 {
     let mut buffer = [0; LONGEST_BODY];
     let mut count = 0;
+    // a loop, since the closure of a `filter` and `count` would change the reader and the buffer
     for line in 1..=lines {
         if reader.line(code, line, &mut buffer).is_ok() {
             count += 1;

@@ -36,6 +36,7 @@ fn perform(rt: &HostRuntime, run: Run) -> anyhow::Result<()> {
     println!(rt; "{form} {name}")?;
     let path = format!(in rt.alloc(); "{name}.{form}")?;
     let bytes = fs::read(rt, path.as_str())?;
+    // an arm for each image's type
     match form {
         Form::Strip => answer::<Strip>(rt, bytes, run),
         Form::Indexed => answer::<Indexed>(rt, bytes, run),

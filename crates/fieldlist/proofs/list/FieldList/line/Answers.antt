@@ -1,4 +1,4 @@
-use Rattle.std.proofs.Common.{◌≡◌, true, ◌++◌, length, IfOk, string_bytes, codes, decimal, sym, ap, ◌∙◌, subst, rules}
+use Rattle.std.proofs.Common.{◌≡◌, true, length, IfOk, string_bytes, sym, ap, ◌∙◌, subst, rules}
 use Rattle.reader.specs.Bodies.{Delivery, line_answer}
 use Rattle.fieldlist.specs.List.{Remembered}
 use Rattle.fieldlist.specs.Records.{image_lines, refused_line}
@@ -16,7 +16,7 @@ returns-in-Ok g c =
     let d : Delivery = line_answer set m w.band w.line (length zeros) in
     let yes : has ≡ true = sym c.is_measured.ensures ∙ search rules in
     let p = delivered d c.line.result c.in-Ok.length c.line.ensures.says c.in-Ok.is in
-    let subject = c.as_str.ensures.value ∙ c.in_ok-name.ensures.ok ∙ ap (λ t. codes "LINE " ++ (t ++ (codes " " ++ decimal w.line))) c.in_ok-band.ensures in
+    let subject = c.as_str.ensures.value ∙ c.in_ok-name.ensures in
     let record₁ = c.as_slice.ensures.value ∙ c.in_ok-record-in-Ok.ensures in
     let is = read_text 237 image_lines c.as_str.result.now name c.as_slice.result.now d c.in-Ok.length zeros c.line.new.buffer p c.line.ensures.writes subject record₁ in
     subst (λ t. IfOk c.image.result (λ s. string_bytes s ≡ t))
@@ -32,7 +32,7 @@ returns g c =
     let has = measured c.args.outline.sensor c.args.outline.correction in
     let name = line_name w.band w.line in
     let d : Delivery = line_answer set m w.band w.line (length zeros) in
-    let subject = c.as_str.ensures.value ∙ c.in_ok-name.ensures.ok ∙ ap (λ t. codes "LINE " ++ (t ++ (codes " " ++ decimal w.line))) c.in_ok-band.ensures in
+    let subject = c.as_str.ensures.value ∙ c.in_ok-name.ensures in
     let no = refused_by d c.line.result c.in-Err.refusal c.line.ensures.says c.in-Err.is in
     subst (λ t. IfOk c.refused-in-Err.result (λ s. string_bytes s ≡ t))
     (ap (λ t. refused_line t c.report.result.number) subject ∙ ap (λ r. refused_line name r.0) c.report.ensures ∙ ap (delivered_line name has) (sym no) ∙ ap (λ n. delivered_line name has (line_answer set m w.band w.line n)) room
