@@ -15,8 +15,9 @@ pub const MOST_REELS: usize = 9;
 // The most blocks on a reel.
 pub const MOST_BLOCKS: u32 = 65535;
 
-// The kind of a block: a record, with what is told of it (its length, its bytes, where it lies); a tape mark; or a bad block. Where there may be no
-// block, an `Option` says so.
+// The kind of a block: a record, with what is told of it (its length, its bytes); a tape mark; or a bad block. Where there may be no block,
+// an `Option` says so.
+// It has no `map`: a public `map` would have to require that its closure may be called, and no public function here asks anything.
 #[derive(Clone, Copy, PartialEq, Eq, Debug)]
 pub enum Kind<R> {
     Record(R),
@@ -29,8 +30,8 @@ pub enum Kind<R> {
 pub struct Short;
 
 // A tape deck. Its calls take `&mut self`, since a real deck winds its tape. Reels and blocks are counted from 1.
-// Reel and block are two numbers, and no struct: most callers count blocks, and would make a struct for each call. `stays` is said of each function that is lent
-// a deck: of what a call leaves as it was only a clause can tell, and no type.
+// Reel and block are two numbers, and no struct: most callers count blocks, and would make a struct for each call.
+// `stays` is said of each function that is lent a deck: of what a call leaves as it was only a clause can tell, and no type.
 pub trait Deck {
     // The tape set that is on the deck.
     ghost meaning: { Self → TapeSet };

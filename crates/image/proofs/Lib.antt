@@ -1,4 +1,3 @@
-pub mod Options
 pub mod Words
 pub mod Rows
 pub mod Strips

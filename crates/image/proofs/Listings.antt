@@ -6,7 +6,7 @@ use Rattle.std.proofs.lemmas.Bool.{le-ltb, cond-false}
 use Rattle.deck.specs.Tape.{Block, written, mark, bad, Reel, TapeSet, Sound, SoundBlock, look}
 use Rattle.deck.specs.Words.{value}
 use Rattle.image.specs.Cursor.{stored_at}
-use Rattle.image.specs.Found.{lent, lent_if, listed_at}
+use Rattle.image.specs.Found.{lent, lent_if, block_listed}
 use Rattle.image.specs.Indexed.{blocks, first_entry, header, Entry, Encodes, passed, verdict, meant}
 use Rattle.image.specs.Opened.{Exactly, indexed_set}
 use Rattle.image.specs.Stored.{stored_as}
@@ -55,7 +55,7 @@ kind_whole xs head at bad s l = (omega (arith, l.1.0), stored_there xs (at + 4) 
 
 pub record Listed (xs : List ℕ) (at reel block : ℕ) : Type 0 where
   pub whole : at + 8 ≤ length xs
-  pub finds : listed_at xs at ≡ look (meant xs) reel block
+  pub finds : block_listed xs at ≡ look (meant xs) reel block
 
 -- The entry that the counts lead to is that of the block that was asked for.
 pub listed_there : (i : Indexed) (reel block r b reels before : ℕ) → (1 ≤ reel) × (r ≡ reel - 1) → (1 ≤ block) × (b ≡ block - 1) → r < length (indexed_set i) → b < length (slice_index_or (indexed_set i) r []) → reels ≡ length (indexed_set i) → before ≡ length (blocks (take r (indexed_set i))) → Listed (vec_items i.bytes) (4 + 4 * reels + 8 * (before + b)) reel block

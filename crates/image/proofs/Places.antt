@@ -15,7 +15,7 @@ use Rattle.image.specs.Strip.{block_bytes, reel_bytes, encoded, size, verdict, m
 use Rattle.image.specs.Cursor.{stored_at, Reads, Stands}
 use Rattle.image.specs.declared.cursor.Cursor.{Cursor}
 use Rattle.image.specs.declared.strip.Strip.{Strip}
-use Rattle.image.specs.Found.{lent, lent_if, found_at}
+use Rattle.image.specs.Found.{lent, lent_if, block_at_word}
 use Rattle.deck.specs.declared.Kind.{Kind}
 use Rattle.image.proofs.Words.{value_word}
 use Rattle.image.proofs.Strips.{word_of, size_of, block_of, judged_sound}
@@ -191,7 +191,7 @@ found_as xs at (written bytes) h =
 found_as xs at mark h = refl
 found_as xs at bad h = refl
 
-pub found_block : (xs : List ℕ) (at : ℕ) (b : Block) → BlockAt xs at b → found_at xs at ≡ Some b
+pub found_block : (xs : List ℕ) (at : ℕ) (b : Block) → BlockAt xs at b → block_at_word xs at ≡ Some b
 found_block xs at b h = ap (lent_if xs (at + 4)) (front_kind xs at b h) ∙ found_as xs at b h
 
 -- The block of a set at a place that is counted from 1, and so from 0.
@@ -205,7 +205,7 @@ looked set reel block r b hr hb on_reel on_block =
     ∙ nth-there (slice_index_or set r []) b mark on_block
 
 -- What is found where the cursor stands is the block that was asked for.
-pub found_there : (s : Strip) (reel block : ℕ) → (1 ≤ reel) × (s.cursor.reel ≡ reel - 1) → (1 ≤ block) × (s.cursor.block ≡ block - 1) → s.cursor.block < length (slice_index_or (strip_set s) s.cursor.reel []) → found_at (vec_items s.bytes) s.cursor.at ≡ look (strip_set s) reel block
+pub found_there : (s : Strip) (reel block : ℕ) → (1 ≤ reel) × (s.cursor.reel ≡ reel - 1) → (1 ≤ block) × (s.cursor.block ≡ block - 1) → s.cursor.block < length (slice_index_or (strip_set s) s.cursor.reel []) → block_at_word (vec_items s.bytes) s.cursor.at ≡ look (strip_set s) reel block
 found_there s reel block hr hb inside =
     found_block (vec_items s.bytes) s.cursor.at (block_on (vec_items s.bytes) s.cursor) (on_there s inside).there
     ∙ sym (looked (strip_set s) reel block s.cursor.reel s.cursor.block hr hb s.on_reel inside)

@@ -25,14 +25,14 @@ lent_if xs at None = None
 lent_if xs at (Some s) = lent xs at s
 
 -- The block of a strip whose kind word lies at a place: a record's bytes follow the word.
-abbrev pub found_at : List ℕ → ℕ → Option Block
-found_at xs at = lent_if xs (at + 4) (stored_at xs at)
+abbrev pub block_at_word : List ℕ → ℕ → Option Block
+block_at_word xs at = lent_if xs (at + 4) (stored_at xs at)
 
 -- The block of an indexed image whose entry lies at a place: an offset and a kind word.
-abbrev pub listed_at : List ℕ → ℕ → Option Block
-listed_at xs at = lent_if xs (value (drop at xs)) (stored_at xs (at + 4))
+abbrev pub block_listed : List ℕ → ℕ → Option Block
+block_listed xs at = lent_if xs (value (drop at xs)) (stored_at xs (at + 4))
 
 -- What is found at a place, if there is one to look at.
 abbrev pub found_where : List ℕ → Option ℕ → Option Block
 found_where xs None = None
-found_where xs (Some at) = found_at xs at
+found_where xs (Some at) = block_at_word xs at

@@ -1,7 +1,7 @@
 // A block of an image, its bytes lent, and what a deck answers of it.
 ghost use Rattle.std.specs.Prelude.{◌≡◌, ◌+◌, ◌≤◌, length};
 ghost use Rattle.deck.specs.Answers.{kind_of, fetched, filled};
-ghost use Rattle.image.specs.Found.{seen, lent, found_at, listed_at};
+ghost use Rattle.image.specs.Found.{seen, lent, block_at_word, block_listed};
 
 use super::cursor::block_at;
 use super::word::known_word;
@@ -20,7 +20,7 @@ fn lent(bytes: &[u8], at: usize, block: Kind<usize>) -> Option<Kind<&[u8]>>
 
 // The block whose kind word lies at a place of a strip.
 pub(crate) fn found_at(bytes: &[u8], at: usize) -> Option<Kind<&[u8]>>
-    ensures { seen result ≡ found_at bytes.now at }
+    ensures { seen result ≡ block_at_word bytes.now at }
 {
     let block = block_at(bytes, at)?;
     lent(bytes, at + 4, block)
@@ -29,7 +29,7 @@ pub(crate) fn found_at(bytes: &[u8], at: usize) -> Option<Kind<&[u8]>>
 // The block whose entry lies at a place of an indexed image.
 pub(crate) fn listed_at(bytes: &[u8], at: usize) -> Option<Kind<&[u8]>>
     requires { at + 8 ≤ length bytes.now }
-    ensures { seen result ≡ listed_at bytes.now at }
+    ensures { seen result ≡ block_listed bytes.now at }
 {
     let offset = known_word(bytes, at) as usize;
     let block = block_at(bytes, at + 4)?;

@@ -11,7 +11,7 @@ pub enum Cause {
 }
 
 impl Cause {
-    // The refusal's number.
+    // The refusal's number. A `match` tells it, since callers know a refusal by its number.
     pub fn number(self) -> u32
         ensures { result ≡ number self }
     {

@@ -16,12 +16,12 @@ pub(crate) fn size(block: Kind<usize>) -> usize
 {
     match block {
         Kind::Record(length) => length + 8,
-        Kind::Mark => 4,
-        Kind::Bad => 4,
+        Kind::Mark | Kind::Bad => 4,
     }
 }
 
 // The chart of the reels of a strip, or the first check that fails.
+// The three numbers are counted here, and by no iterator: how far each goes depends on the word.
 pub(crate) fn scan(bytes: &[u8]) -> Result<Chart, Refusal>
     ensures { MatchResult result (λ c. Scanned bytes.now c.items) (λ e. verdict bytes.now ≡ Err (number e.cause, e.offset)) }
 {

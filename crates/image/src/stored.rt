@@ -11,6 +11,7 @@ pub const MARK: u32 = 0;
 pub const BAD: u32 = 4294967295;
 
 // What a kind word says, or none where it is no kind word.
+// No `TryFrom`: `Kind` is deck's, and a crate gives std's traits only to its own types.
 pub(crate) fn stored_by(word: u32) -> Option<Kind<usize>>
     ensures { result ≡ stored word }
 {

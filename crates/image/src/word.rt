@@ -1,4 +1,5 @@
 // Words of four bytes, most significant first.
+// Bytes and a place are two parameters of all that read words, and no struct: a refusal tells the place itself, so each would take it apart.
 ghost use Rattle.std.specs.Prelude.{◌≡◌, ◌+◌, ◌≤◌, length, drop, if◌then◌else◌, Some, None, nat_lt};
 ghost use Rattle.deck.specs.Words.{value};
 ghost use Rattle.image.specs.Indexed.{whole};

@@ -38,10 +38,7 @@ fn refused<I: Image + Drop>(
 
 // The image that bytes are.
 fn opened<I: Image>(bytes: Vec<u8>) -> Result<I, &'static str> {
-    match I::open(bytes) {
-        Ok(image) => Ok(image),
-        Err(_) => Err("it was refused"),
-    }
+    I::open(bytes).map_err(|_| "it was refused")
 }
 
 #[test]
@@ -303,13 +300,14 @@ fn overlapping(rt: HostRuntime) -> Result<(), Fail> {
     Ok(())
 }
 
-// The bytes come back.
+// The image that bytes are hands these bytes back.
 fn back<I: Image>(rt: &impl Abort, bytes: Vec<u8>, expected: &[u8]) -> Result<(), Fail> {
     let image: I = opened(bytes)?;
     assert!(rt; image.into_bytes().as_slice() == expected);
     Ok(())
 }
 
+// The bytes come back from both images, those that no block names among them.
 #[test]
 fn bytes_back(rt: HostRuntime) -> Result<(), Fail> {
     let heap = rt.alloc();

@@ -51,6 +51,7 @@ fn check_entry(bytes: &[u8], header: usize, at: usize) -> Result<(), Refusal>
 }
 
 // How many blocks the reels have together.
+// A loop and no `try_fold` (tried): that the sum fits at each call of its closure, and what it comes to, stay open.
 fn total_blocks(bytes: &[u8], reels: usize) -> Result<usize, Refusal>
     requires { reels ≤ 9 }
     ensures counts { numbered result ≡ block_total bytes.now reels }

@@ -30,6 +30,7 @@ impl Indexed {
     }
 
     // How many blocks the reels before one have together.
+    // A loop and no `sum` (tried): what each call of `block_count` in a closure needs, and how large the sum is, stay open.
     #[tactic(auto, using(crate::proofs::Listings::is_image))]
     fn blocks_before(&self, reel: usize) -> usize
         requires { reel ≤ length (indexed_set self.now) }

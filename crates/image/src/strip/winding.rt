@@ -6,6 +6,7 @@ use super::super::cursor::{Cursor, block_at};
 use super::super::scan::size;
 use super::Strip;
 
+// `stays` is said of each method here, and of `wind_to`: of what a call leaves as it was only a clause can tell, and no type.
 impl Strip {
     // To the beginning of a reel, unless the cursor is on that reel.
     #[tactic(auto, using(crate::proofs::Charts::reels_counted, crate::proofs::Charts::charted_span))]
@@ -24,7 +25,7 @@ impl Strip {
     }
 
     // Over the block that the cursor is on.
-    #[tactic(auto, using(crate::proofs::Places::on_there, crate::proofs::Options::some_same, deck::proofs::Looks::reel_sound))]
+    #[tactic(auto, using(crate::proofs::Places::on_there, deck::proofs::Looks::reel_sound))]
     fn on(&mut self)
         requires { self.old.cursor.block < length (slice_index_or (strip_set self.old) self.old.cursor.reel []) }
         ensures stays { self.new.bytes ≡ self.old.bytes }
@@ -40,7 +41,7 @@ impl Strip {
     }
 
     // Back over the block before the cursor.
-    #[tactic(auto, using(crate::proofs::Places::behind_there, crate::proofs::Options::some_same))]
+    #[tactic(auto, using(crate::proofs::Places::behind_there))]
     fn back(&mut self)
         requires { 0 < self.old.cursor.block }
         ensures stays { self.new.bytes ≡ self.old.bytes }
