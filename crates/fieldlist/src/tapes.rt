@@ -13,6 +13,7 @@ use std::alloc::{AllocError, Global};
 // The longest strip that is read, in bytes. Any strip of an uncorrected set has over a hundred thousand, by its many ancillary records.
 const LONGEST_STRIP: usize = 1048576;
 
+// Here and in `listing` a deck and a strip have a function each, of one shape: the limits differ, and what is told of a set.
 // The fields of what a deck holds: of each annotation record, and of the line that is wanted. Or the fault.
 pub fn tape_fields<D: Deck + Drop>(
     heap: Global,

@@ -16,8 +16,8 @@ fn strip(rt: &HostRuntime, name: &str) -> anyhow::Result<Vec<u8>> {
 fn asked(rt: &HostRuntime, words: &[&str]) -> anyhow::Result<(Vec<u8>, Option<Wanted>)> {
     match words {
         ["zeros", count] => {
-            let count = count.parse::<u32>()?;
-            Ok((vec![in rt.alloc(); 0; count as usize]?, None))
+            let count = count.parse::<usize>()?;
+            Ok((vec![in rt.alloc(); 0; count]?, None))
         }
         ["strip", name] => Ok((strip(rt, name)?, None)),
         ["strip", name, band, line] => {
