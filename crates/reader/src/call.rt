@@ -36,7 +36,7 @@ impl From<Accepted> for Outline {
 
 // A call, with its arguments. Band codes are 4 to 8 or a vidicon's letter, sheet kinds 1 to 4; k, lines and indexes count from 1.
 // The variants are public and take numbers, since each number is answered; a type of fewer values would ask more of callers.
-#[derive(Clone, Copy)]
+#[derive(Clone, Copy, PartialEq, Eq, Debug)]
 pub enum Call {
     Survey,
     Band(u32),

@@ -7,7 +7,7 @@ use machine::{Accepted, Group};
 use records::{Bands, Form, Layout};
 
 // A block of a reel, both counted from 1.
-#[derive(Clone, Copy)]
+#[derive(Clone, Copy, PartialEq, Eq, Debug)]
 pub struct Spot {
     pub reel: u32,
     pub block: u64,
