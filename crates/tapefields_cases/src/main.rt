@@ -12,12 +12,13 @@ fn strip(rt: &HostRuntime, name: &str) -> anyhow::Result<Vec<u8>> {
     Ok(fs::read(rt, path.as_str())?)
 }
 
-// The strip that these words name, and the line of it that is wanted.
+// The strip that these words name, and the line of it that is wanted. Its two numbers are read here and in `tapefields`: a function for both would
+// be no shorter than the two parses.
 fn asked(rt: &HostRuntime, words: &[&str]) -> anyhow::Result<(Vec<u8>, Option<Wanted>)> {
     match words {
         ["zeros", count] => {
-            let count = count.parse::<usize>()?;
-            Ok((vec![in rt.alloc(); 0; count]?, None))
+            let count = count.parse::<u32>()?;
+            Ok((vec![in rt.alloc(); 0; count as usize]?, None))
         }
         ["strip", name] => Ok((strip(rt, name)?, None)),
         ["strip", name, band, line] => {
