@@ -11,8 +11,8 @@ use reader::{LONGEST_BODY, Outline};
 use records::{Correction, IMAGE, Sensor};
 use std::alloc::{AllocError, Global};
 
-// A line of a band, by the band's code and the line's number.
-#[derive(Clone, Copy)]
+// A line of a band, by the band's code and the line's number. They are public fields that callers set: each number is answered.
+#[derive(Clone, Copy, PartialEq, Eq, Debug)]
 pub struct Wanted {
     pub band: u8,
     pub line: u32,

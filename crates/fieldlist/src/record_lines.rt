@@ -11,6 +11,7 @@ use std::alloc::{AllocError, Global};
 use std::fmt::Display;
 
 // The record that a body was delivered from: before it the six bytes of identification, with the type, and no number.
+// The type is a number, as `records` has its constants.
 pub(crate) fn record_of(heap: Global, kind: u8, body: &[u8]) -> Result<Vec<u8>, AllocError>
     ensures { IfOk result (λ v. v.items ≡ record_of kind body.now) }
 {

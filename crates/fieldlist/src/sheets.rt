@@ -11,7 +11,7 @@ use reader::{LONGEST_BODY, codes};
 use records::ANNOTATION;
 use std::alloc::{AllocError, Global};
 
-// The kind of annotation records among the sheets.
+// The kind of annotation records among the sheets: a number, as the reader's `sheet` takes one, since each number is answered.
 const ANNOTATION_SHEET: u8 = 3;
 
 // How an annotation record is called.

@@ -21,7 +21,7 @@ impl fmt::Display for Shown {
     fn fmt<W: fmt::Write>(&self, f: &mut fmt::Formatter<W>) -> fmt::Result {
         let byte = self.0;
         if is_plain(byte) {
-            write!(f, "{}", char::from(byte))
+            f.write_char(char::from(byte))
         } else {
             write!(f, "\\{byte:02x}")
         }
@@ -36,10 +36,10 @@ impl fmt::Display for Quoted<'_> {
     ghost output = { λ q. Some (quoted q.0.now) };
 
     fn fmt<W: fmt::Write>(&self, f: &mut fmt::Formatter<W>) -> fmt::Result {
-        f.write_str("\"")?;
+        f.write_char('"')?;
         for byte in self.0 {
             write!(f, "{}", Shown(*byte))?;
         }
-        f.write_str("\"")
+        f.write_char('"')
     }
 }

@@ -13,7 +13,8 @@ use std::alloc::{AllocError, Global};
 // The longest strip that is read, in bytes. Any strip of an uncorrected set has over a hundred thousand, by its many ancillary records.
 const LONGEST_STRIP: usize = 1048576;
 
-// The fields of what a deck holds: of each annotation record, and of the line that is wanted. Or the fault.
+// The fields of what a deck holds: of each annotation record, and of the line that is wanted. Or the fault. `listing::tape` tells a set by another
+// text: the two share the survey alone.
 pub fn tape_fields<D: Deck + Drop>(
     heap: Global,
     deck: D,
@@ -33,7 +34,8 @@ pub fn tape_fields<D: Deck + Drop>(
     }
 }
 
-// The fields of these bytes as a strip, their refusal, or `LONG` where there are too many. One function for this and `listing::strip_tape` would take a closure, and have to require that it may be called.
+// The fields of these bytes as a strip, their refusal, or `LONG` where there are too many. One function for this and
+// `listing::strip_tape` would take a closure, and have to require that it may be called.
 pub fn strip_fields(
     heap: Global,
     bytes: Vec<u8>,

@@ -1,10 +1,10 @@
 // Annotation records.
-ghost use Rattle.std.specs.Prelude.{◌≡◌, ◌+◌, ◌≤◌, Some, is_ok, IfOk, IfErr};
+ghost use Rattle.std.specs.Prelude.{◌≡◌, ◌+◌, ◌≤◌, Some};
 ghost use Rattle.fields.specs.Annotations.{is_annotation, field, exposure_date, centre, path_and_row, nominal_centre, frame, processing_by, letter, processing};
 ghost use Rattle.fields.specs.Faults.{told, told_part};
 
 use super::fault::FieldFault;
-use super::part::Part;
+use super::part::{Part, checked};
 use records::ANNOTATION;
 use std::fmt;
 
@@ -47,12 +47,14 @@ impl fmt::Display for Processing {
     }
 }
 
-// An annotation record, or what is taken for one. It is not one generic struct with `ImageRecord`: a marker type and a trait for the check would be longer than the two lines that both share.
+// An annotation record, or what is taken for one. It is not one generic struct with `ImageRecord`: a marker type and a trait for the check would be
+// longer than the two lines that both share. No model: a model and `Copy` do not go together, so each clause names the record.
 #[derive(Clone, Copy)]
 pub struct Annotation<'a> {
     record: &'a [u8],
 }
 
+// The lengths stand as numbers: by `Form` they would name two forms of sets, where either instrument's records will do.
 fn is_annotation(record: &[u8]) -> bool
     ensures { result ≡ is_annotation «record».now }
 {
@@ -66,23 +68,13 @@ impl<'a> Annotation<'a> {
         Annotation { record }
     }
 
-    // The record, where it is an annotation record.
-    fn checked(&self) -> Result<&'a [u8], FieldFault>
-        ensures decides { is_ok result ≡ is_annotation self.now.«record».now }
-        ensures lends { IfOk result (λ r. r.now ≡ self.now.«record».now) }
-        ensures refuses { IfErr result (λ e. e ≡ FieldFault.Record) }
-    {
-        is_annotation(self.record)
-            .then_some(self.record)
-            .ok_or(FieldFault::Record)
-    }
-
     // So many bytes from the first on.
     fn field(&self, first: usize, count: usize) -> Result<Part<'a>, FieldFault>
         requires { (1 ≤ first) × (first + count ≤ 3597) }
         ensures { told_part result ≡ field self.now.«record».now first count }
     {
-        Ok(Part::of(self.checked()?, first, count))
+        let record = checked(is_annotation(self.record), self.record)?;
+        Ok(Part::of(record, first, count))
     }
 
     pub fn exposure_date(&self) -> Result<Part<'a>, FieldFault>
@@ -119,6 +111,7 @@ impl<'a> Annotation<'a> {
     pub fn processing(&self) -> Result<Processing, FieldFault>
         ensures { told result ≡ processing self.now.«record».now }
     {
-        Processing::try_from(char::from(self.checked()?[81]))
+        let record = checked(is_annotation(self.record), self.record)?;
+        Processing::try_from(char::from(record[81]))
     }
 }

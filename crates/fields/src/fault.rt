@@ -13,7 +13,7 @@ pub enum FieldFault {
 }
 
 impl FieldFault {
-    // The refusal's number.
+    // The number by which callers know the refusal.
     pub fn number(self) -> u32
         ensures { result ≡ field_number self }
     {

@@ -1,10 +1,10 @@
 // Image records of the scanner, uncorrected.
-ghost use Rattle.std.specs.Prelude.{◌≡◌, ◌+◌, ◌≤◌, Some, is_ok, IfOk, IfErr};
+ghost use Rattle.std.specs.Prelude.{◌≡◌, ◌+◌, ◌≤◌, Some};
 ghost use Rattle.fields.specs.Faults.{told, told_part};
 ghost use Rattle.fields.specs.Images.{is_image, count_by, pixel_count, quality_by, quality_text, quality, signed_by, signed_at, gain, bias, first_pixel, pixels};
 
 use super::fault::FieldFault;
-use super::part::Part;
+use super::part::{Part, checked};
 use records::IMAGE;
 use std::fmt;
 
@@ -53,6 +53,7 @@ pub struct ImageRecord<'a> {
     record: &'a [u8],
 }
 
+// The length stands as a number: by `Form` it would name one form of sets, where two have it.
 fn is_image(record: &[u8]) -> bool
     ensures { result ≡ is_image «record».now }
 {
@@ -81,7 +82,8 @@ fn signed_by(a: u8, b: u8, c: u8, d: u8) -> Result<i16, FieldFault>
     }
 }
 
-// The byte at which the pixels of a band begin.
+// The byte at which the pixels of a band begin: before them lie 12 bytes and the fill. Here and in `pixels` the band is a number, since each is
+// answered: 42 where the scanner has no such band.
 fn first_pixel(band: u8) -> Result<usize, FieldFault>
     ensures { told result ≡ first_pixel band }
 {
@@ -102,22 +104,11 @@ impl<'a> ImageRecord<'a> {
         ImageRecord { record }
     }
 
-    // The record, where it is an image record.
-    fn checked(&self) -> Result<&'a [u8], FieldFault>
-        ensures decides { is_ok result ≡ is_image self.now.«record».now }
-        ensures lends { IfOk result (λ r. r.now ≡ self.now.«record».now) }
-        ensures refuses { IfErr result (λ e. e ≡ FieldFault.Record) }
-    {
-        is_image(self.record)
-            .then_some(self.record)
-            .ok_or(FieldFault::Record)
-    }
-
     // How many pixels the line has, by bytes 3561 and 3562.
     pub fn pixel_count(&self) -> Result<u16, FieldFault>
         ensures { told result ≡ pixel_count self.now.«record».now }
     {
-        let record = self.checked()?;
+        let record = checked(is_image(self.record), self.record)?;
         count_by(record[3560], record[3561])
     }
 
@@ -125,7 +116,8 @@ impl<'a> ImageRecord<'a> {
     pub fn quality(&self) -> Result<Quality, FieldFault>
         ensures { told result ≡ quality self.now.«record».now }
     {
-        Quality::try_from(self.checked()?[3562])
+        let record = checked(is_image(self.record), self.record)?;
+        Quality::try_from(record[3562])
     }
 
     // The signed number whose first byte is that of a number.
@@ -133,7 +125,7 @@ impl<'a> ImageRecord<'a> {
         requires { (1 ≤ first) × (first + 3 ≤ 3596) }
         ensures { told result ≡ signed_at self.now.«record».now first }
     {
-        let record = self.checked()?;
+        let record = checked(is_image(self.record), self.record)?;
         signed_by(
             record[first - 1],
             record[first],
@@ -160,7 +152,7 @@ impl<'a> ImageRecord<'a> {
     pub fn pixels(&self, band: u8) -> Result<Part<'a>, FieldFault>
         ensures { told_part result ≡ pixels self.now.«record».now band }
     {
-        let record = self.checked()?;
+        let record = checked(is_image(self.record), self.record)?;
         let first = first_pixel(band)?;
         let count = usize::from(count_by(record[3560], record[3561])?);
         if first + count > 3561 {

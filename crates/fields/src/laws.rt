@@ -1,4 +1,4 @@
-// Laws of the fields: each function stands for its contract, and the number that it answers says nothing.
+// Laws of the fields: each function stands for its contract, and the number that it answers says nothing; the result's type is public.
 ghost use Rattle.fields.specs.Laws.{Worked, OneCount, OneSigned};
 
 // Values worked out by hand.

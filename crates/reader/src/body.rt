@@ -8,6 +8,10 @@ use super::refusal::CallerFault;
 use deck::{Deck, Kind, LONGEST_RECORD};
 use records::Form;
 
+// The identification of a record, in bytes: the body follows it.
+pub(crate) const IDENTIFICATION: usize = 6;
+
+// Here and below the deck and the scratch buffer come apart: a method of `Reader` would also have to say that what is accepted and the tally stay.
 // Puts the record at a spot into the scratch buffer and answers its length, if there is a record.
 fn record_at<D: Deck>(
     deck: &mut D,
@@ -39,13 +43,14 @@ pub(crate) fn body<D: Deck>(
     ensures writes { buffer.new ≡ buffer_after (body_into (D.meaning deck.old) spot form (length buffer.old)) buffer.old }
 {
     let size = form.record_length();
-    if buffer.len() < size - 6 {
+    // `get_mut` in its place leaves five goals open.
+    if buffer.len() < size - IDENTIFICATION {
         return Err(CallerFault::Buffer);
     }
     let length = record_at(deck, spot, scratch).ok_or(CallerFault::Unreadable)?;
     if length != size {
         return Err(CallerFault::Unreadable);
     }
-    buffer[..size - 6].copy_from_slice(&scratch[6..size]);
-    Ok(size - 6)
+    buffer[..size - IDENTIFICATION].copy_from_slice(&scratch[IDENTIFICATION..size]);
+    Ok(size - IDENTIFICATION)
 }

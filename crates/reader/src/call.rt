@@ -7,9 +7,10 @@ use machine::Accepted;
 use records::{Correction, Sensor};
 
 // What a survey answers of an accepted set.
-#[derive(Clone, Copy, PartialEq, Eq)]
+#[derive(Clone, Copy, PartialEq, Eq, Debug)]
 pub struct Outline {
     pub sensor: Sensor,
+    // a number, as `Layout` has it: the field is public
     pub mission: u8,
     pub correction: Correction,
     // how many bands are present
@@ -34,7 +35,8 @@ impl From<Accepted> for Outline {
 }
 
 // A call, with its arguments. Band codes are 4 to 8 or a vidicon's letter, sheet kinds 1 to 4; k, lines and indexes count from 1.
-#[derive(Clone, Copy)]
+// The variants are public and take numbers, since each number is answered; a type of fewer values would ask more of callers.
+#[derive(Clone, Copy, PartialEq, Eq, Debug)]
 pub enum Call {
     Survey,
     Band(u32),
@@ -45,7 +47,7 @@ pub enum Call {
 }
 
 // What a call answers where it is not refused.
-#[derive(Clone, Copy, PartialEq, Eq)]
+#[derive(Clone, Copy, PartialEq, Eq, Debug)]
 pub enum Answer {
     Outline(Outline),
     Code(u8),

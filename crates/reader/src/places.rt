@@ -7,7 +7,7 @@ use machine::{Accepted, Group};
 use records::{Bands, Form, Layout};
 
 // A block of a reel, both counted from 1.
-#[derive(Clone, Copy)]
+#[derive(Clone, Copy, PartialEq, Eq, Debug)]
 pub struct Spot {
     pub reel: u32,
     pub block: u64,
@@ -37,7 +37,8 @@ pub fn codes(bands: &Bands) -> &[u8]
     &bands.codes[..bands.count.min(5)]
 }
 
-// The image file of a band, if the band is present.
+// The image file of a band, if the band is present. Each number is answered. The table of places is the survey's, of a fixed size beside the codes:
+// no heap.
 pub fn band_file(accepted: &Accepted, code: u8) -> Option<BandFile>
     ensures { result ≡ band_file accepted.now code }
 {
@@ -47,7 +48,7 @@ pub fn band_file(accepted: &Accepted, code: u8) -> Option<BandFile>
         Form::Interleaved => BandFile {
             group: accepted.places.table[0],
             stride: layout.stride(),
-            first: (code as u32).saturating_sub(3),
+            first: u32::from(code).saturating_sub(3),
         },
         Form::Sequential => BandFile {
             group: accepted.places.table[place],
@@ -62,6 +63,7 @@ pub fn band_file(accepted: &Accepted, code: u8) -> Option<BandFile>
     })
 }
 
+// The widenings by `as`, here and below: `u64::from` leaves the proofs of their sums open.
 // On which reel image block k of a file stands, and which of that reel's image blocks it is.
 fn image_on(through: &[u32; 9], k: u64) -> Option<Spot>
     ensures finds { result ≡ image_on k 0 1 through.now }

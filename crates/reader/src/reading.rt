@@ -4,7 +4,7 @@ ghost use Rattle.deck.specs.Tape.{from_one};
 ghost use Rattle.survey.specs.Surveys.{surveyed};
 ghost use Rattle.reader.specs.Bodies.{told, told_delivery, buffer_after, line_answer, sheet_answer, ident_answer, band_answer, survey_answer, accepted_by, bands_of, raised};
 
-use super::body::body;
+use super::body::{IDENTIFICATION, body};
 use super::call::Outline;
 use super::places::{band_file, codes, line_spot, sheet_spot};
 use super::refusal::{CallerFault, Refusal};
@@ -14,13 +14,14 @@ use records::Bands;
 use survey::survey;
 
 // The longest body of a record, in bytes: a buffer of this length takes the body of any line or sheet.
-pub const LONGEST_BODY: usize = LONGEST_RECORD - 6;
+pub const LONGEST_BODY: usize = LONGEST_RECORD - IDENTIFICATION;
 
 // The most lines that a tally counts: it stands still there.
-pub const MOST_TALLIED: u64 = 9223372036854775807;
+const MOST_TALLIED: u64 = i64::MAX as u64;
 
 // A reader owns its deck. It remembers what its last survey accepted, and how many lines it has delivered.
-// No model: the clauses and proofs of five crates name its deck, what is accepted and its tally; a model would hide the scratch buffer alone.
+// No model: a view with the deck's meaning alone would weaken `new` and `into_deck`, which name the deck; one with the deck leaves each clause
+// as it is.
 #[derive(Drop)]
 pub struct Reader<D> {
     deck: D,
@@ -65,7 +66,7 @@ impl<D: Deck> Reader<D> {
     {
         let surveyed = survey(&mut self.deck);
         self.accepted = surveyed.ok();
-        Ok(surveyed?.into())
+        Ok(Outline::from(surveyed?))
     }
 
     // The bands that are present: none where no survey has accepted the set.
@@ -86,10 +87,11 @@ impl<D: Deck> Reader<D> {
         let Some(accepted) = self.accepted else {
             return Err(CallerFault::NotAccepted.into());
         };
-        Ok(code_at(codes(&accepted.summary.bands), k).ok_or(CallerFault::Band)?)
+        code_at(codes(&accepted.summary.bands), k).ok_or(CallerFault::Band.into())
     }
 
-    // Puts the scene identification into a buffer.
+    // Puts the scene identification into a buffer. Here and below result and buffer have a clause each, not one for both: who counts lines or tells
+    // refusals cites the first alone.
     pub fn ident(&self, buffer: &mut [u8]) -> Result<usize, Refusal>
         ensures says { told result ≡ told_delivery (ident_answer self.now.accepted (length buffer.old)) }
         ensures writes { buffer.new ≡ buffer_after (ident_answer self.now.accepted (length buffer.old)) buffer.old }
@@ -97,6 +99,7 @@ impl<D: Deck> Reader<D> {
         let Some(accepted) = self.accepted else {
             return Err(CallerFault::NotAccepted.into());
         };
+        // `get_mut(..18)` in its place leaves four goals open.
         if buffer.len() < 18 {
             return Err(CallerFault::Buffer.into());
         }
@@ -104,7 +107,7 @@ impl<D: Deck> Reader<D> {
         Ok(18)
     }
 
-    // Puts the body of a line of a band into a buffer, and counts it.
+    // Puts the body of a line of a band into a buffer, and counts it. Each number of a band is answered: 42 where no such band is present.
     pub fn line(&mut self, band: u8, line: u32, buffer: &mut [u8]) -> Result<usize, Refusal>
         ensures stays { D.meaning self.new.deck ≡ D.meaning self.old.deck }
         ensures says { told result ≡ told_delivery (line_answer (D.meaning self.old.deck) self.old.accepted band line (length buffer.old)) }
@@ -147,7 +150,7 @@ impl<D: Deck> Reader<D> {
         let file = band_file(&accepted, band).ok_or(CallerFault::Band)?;
         let layout = accepted.summary.layout;
         let spot = Some(sheet_spot(&file.group, layout, kind, index)?);
-        Ok(body(&mut self.deck, spot, layout.form, &mut self.scratch, buffer)?)
+        body(&mut self.deck, spot, layout.form, &mut self.scratch, buffer).map_err(Refusal::from)
     }
 }
 

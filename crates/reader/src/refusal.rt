@@ -23,7 +23,7 @@ pub enum CallerFault {
 }
 
 impl CallerFault {
-    // The refusal's number.
+    // The number by which callers know the refusal.
     pub fn number(self) -> u32
         ensures { result ≡ caller_number self }
     {
@@ -62,6 +62,7 @@ impl From<CallerFault> for Refusal {
 }
 
 // What a refused call returns: the refusal's number, and the layer, reel and block of a fault of the tape, which are 0 where the caller is at fault.
+// They are four words, as they go to a caller in C.
 #[derive(Clone, Copy, PartialEq, Eq, Debug)]
 pub struct Report {
     pub number: u32,

@@ -12,7 +12,8 @@ fn strip(rt: &HostRuntime, name: &str) -> anyhow::Result<Vec<u8>> {
     Ok(fs::read(rt, path.as_str())?)
 }
 
-// The strip that these words name, and the line of it that is wanted.
+// The strip that these words name, and the line of it that is wanted. Its two numbers are read here and in `tapefields`: a function for both would
+// be no shorter than the two parses.
 fn asked(rt: &HostRuntime, words: &[&str]) -> anyhow::Result<(Vec<u8>, Option<Wanted>)> {
     match words {
         ["zeros", count] => {

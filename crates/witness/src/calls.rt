@@ -40,7 +40,7 @@ fn ask<D: Deck>(reader: &mut Reader<D>, asked: Asked) -> Answered
     Answered { answer, buffer }
 }
 
-// Asks a fresh reader over a deck all of these, one after the other.
+// Asks a fresh reader over a deck all of these, one after the other. The code itself holds this one to the equation; `play` adds what follows.
 fn ask_all<D: Deck + Drop>(
     heap: Global,
     deck: D,

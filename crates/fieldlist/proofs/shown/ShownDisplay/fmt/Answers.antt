@@ -11,7 +11,7 @@ returns-else-is_plain-clause-writes g c =
     let b = c.args.self.now.0 in
     let took = g.W.Write.write_str_gives in
     let f = c.args.f.now in
-    let after = c.write-else-is_plain.new.self in
+    let after = c.write.new.self in
     let two = digit_glyph false (b / 16) ∷ digit_glyph false (b % 16) ∷ [] in
     let spec = format_spec 32 0 4 2 (2 ^ 64 - 1) in
     let written : styled_digits_output c.in_radix.result c.laid_out.result ≡ Some two =
@@ -20,4 +20,4 @@ returns-else-is_plain-clause-writes g c =
     ∙ ap Some (hex_byte false b (omega arith)) in
     let text : shown_byte b ≡ 92 ∷ two = cond-false (plain b) (b ∷ []) (92 ∷ two) (sym c.is_plain.ensures ∙ c.if-is_plain.false) in
     λ whole ok. subst (λ t. HasWritten took f t after) (sym text)
-    (subst (λ o. DisplaysOnOk took f c.write-else-is_plain.result (Some (92 ∷ []) ++? o) after) written c.write-else-is_plain.ensures.writes whole ok)
+    (subst (λ o. DisplaysOnOk took f c.write.result (Some (92 ∷ []) ++? o) after) written c.write.ensures.writes whole ok)
