@@ -36,9 +36,7 @@ impl Reading {
         ensures more { IfOk result (λ b. b ≡ is_some (look (D.meaning deck.old) at.reel at.block)) }
         ensures stays_steady { Steady self.old.machine → OnOk result (Steady self.new.machine) }
     {
-        let Ok(kind) = deck.fetch(at.reel, at.block, &mut self.scratch) else {
-            return unreachable();
-        };
+        let kind = deck.fetch(at.reel, at.block, &mut self.scratch).unwrap();
         match self.machine.step(at, seen_as(kind, &self.scratch)) {
             Ok(()) => Ok(kind.is_some()),
             Err(cause) => Err(TapeFault {
