@@ -37,6 +37,7 @@ impl Reading {
         ensures stays_steady { Steady self.old.machine → OnOk result (Steady self.new.machine) }
     {
         let kind = deck.fetch(at.reel, at.block, &mut self.scratch).unwrap();
+        // A match and no `map_err`: with that it was tried twice, and the clause `says` of a refusal stays open.
         match self.machine.step(at, seen_as(kind, &self.scratch)) {
             Ok(()) => Ok(kind.is_some()),
             Err(cause) => Err(TapeFault {
