@@ -37,15 +37,14 @@ impl Reading {
         ensures stays_steady { Steady self.old.machine → OnOk result (Steady self.new.machine) }
     {
         let kind = deck.fetch(at.reel, at.block, &mut self.scratch).unwrap();
-        // A match and no `map_err`: with that it was tried twice, and the clause `says` of a refusal stays open.
-        match self.machine.step(at, seen_as(kind, &self.scratch)) {
-            Ok(()) => Ok(kind.is_some()),
-            Err(cause) => Err(TapeFault {
+        self.machine
+            .step(at, seen_as(kind, &self.scratch))
+            .map_err(|cause| TapeFault {
                 cause,
                 reel: at.reel,
                 block: at.block,
-            }),
-        }
+            })?;
+        Ok(kind.is_some())
     }
 
     // Reads a reel from its first block to its end.
