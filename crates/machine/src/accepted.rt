@@ -3,7 +3,7 @@ ghost use Rattle.std.specs.Prelude.{◌≡◌};
 ghost use Rattle.machine.specs.Findings.{start, lines_of, accepted};
 
 use super::machine::{Expect, Group, Machine, Onward, Place};
-use records::{Bands, Content, Correction, DIRECTORY_LENGTH, Form, Header, Layout};
+use records::{Bands, Content, Correction, DIRECTORY_LENGTH, Form, Header, Layout, MOST_BANDS};
 
 // What an accepted set is a picture of.
 #[derive(Clone, Copy)]
@@ -16,11 +16,12 @@ pub struct Summary {
     pub lines: u32,
 }
 
-// Where the records of an accepted set lie, group by group. A count stands beside the table, since there is no heap and places are copied whole.
+// Where the records of an accepted set lie, group by group.
+// A count stands beside the table: an `ArrayVec` is not `Copy`, as this public type is, and callers may set the fields.
 #[derive(Clone, Copy)]
 pub struct Places {
     pub groups: usize,
-    pub table: [Group; 5],
+    pub table: [Group; MOST_BANDS],
 }
 
 #[derive(Clone, Copy)]
@@ -31,6 +32,7 @@ pub struct Accepted {
 
 impl Machine {
     // A machine that expects the first directory of so many reels.
+    // Its group and layout are made up until the first are read: the fields are public, and an Option would ask more of callers.
     pub fn new(reels: u32) -> Self
         ensures { result ≡ start reels }
     {
@@ -50,7 +52,7 @@ impl Machine {
             },
             group,
             groups: 0,
-            table: [group; 5],
+            table: [group; MOST_BANDS],
             bands: Bands::new(),
         }
     }
@@ -69,6 +71,7 @@ impl Machine {
     pub fn accepted(&self) -> Accepted
         ensures { result ≡ accepted self.now }
     {
+        // Copied, since the contract stays open where `first_chunk` lends it.
         let mut ident = [0; 18];
         ident.copy_from_slice(&self.directory[34..52]);
         Accepted {

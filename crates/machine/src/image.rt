@@ -4,22 +4,16 @@ ghost use Rattle.records.specs.Layouts.{stride};
 ghost use Rattle.machine.specs.Machines.{Steady, stepped, set_stepped, all_zero, most_blocks, missing, one_more, line, on_image, on_bad_line, no_group, lines_agree, behind_trailer, on_first_trailer, on_trailer, on_resumed};
 
 use super::machine::{Expect, Group, Machine, Place};
-use records::{Cause, Content, Form, IMAGE, SetFault, TRAILER, check, present};
+use records::{Cause, Content, Form, IMAGE, SetFault, TRAILER, present};
 
 // The most lines of a band.
 const MOST_LINES: u32 = 8192;
 
-// Whether every byte of a body is zero. A loop and no `all`: the bits of all are gathered and asked for once, which is quicker than to ask at each
-// byte.
-#[tactic(auto, using(crate::proofs::Zeros::zero_more, crate::proofs::Zeros::zero_all))]
+// Whether every byte of a body is zero. The bits of all are gathered and asked for once, which is quicker than to ask at each byte.
 fn all_zero(body: &[u8]) -> bool
     ensures { result ≡ all_zero body.now }
 {
-    let mut all = 0u8;
-    for byte in body {
-        all |= *byte;
-    }
-    all == 0
+    body.iter().fold(0, |all, byte| all | *byte) == 0
 }
 
 // The same of a record's body, which begins with its seventh byte.
@@ -88,7 +82,7 @@ impl Machine {
         ensures stays_steady { Steady self.old → OnOk result (Steady self.new) }
     {
         let number = u64::from(self.group.blocks) + 1;
-        check(bytes, self.layout.form.record_length(), IMAGE, number)?;
+        self.check(bytes, IMAGE, number)?;
         let zero = !self.misses() || zero_body(bytes);
         self.line(at, zero)?;
         Ok(())
@@ -129,7 +123,7 @@ impl Machine {
         ensures says { stepped result self.new ≡ on_first_trailer self.old at bytes.now }
         ensures stays_steady { Steady self.old → OnOk result (Steady self.new) }
     {
-        check(bytes, self.layout.form.record_length(), TRAILER, 1)?;
+        self.check(bytes, TRAILER, 1)?;
         if !self.lines_agree() {
             return Err(SetFault::Lines.into());
         }
@@ -142,12 +136,7 @@ impl Machine {
         ensures says { stepped result self.new ≡ on_trailer self.old number bytes.now }
         ensures stays_steady { Steady self.old → OnOk result (Steady self.new) }
     {
-        check(
-            bytes,
-            self.layout.form.record_length(),
-            TRAILER,
-            u64::from(number),
-        )?;
+        self.check(bytes, TRAILER, u64::from(number))?;
         self.expect = self.behind_trailer(number);
         Ok(())
     }

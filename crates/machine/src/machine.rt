@@ -2,7 +2,8 @@
 ghost use Rattle.std.specs.Prelude.{◌≡◌};
 ghost use Rattle.machine.specs.Machines.{fresh};
 
-use records::{Bands, Content, DIRECTORY_LENGTH, Header, Layout};
+use deck::MOST_REELS;
+use records::{Bands, Content, DIRECTORY_LENGTH, Header, Layout, MOST_BANDS};
 
 // A block of a reel, both counted from 1.
 #[derive(Clone, Copy, PartialEq, Eq, Debug)]
@@ -55,7 +56,7 @@ pub struct Group {
     pub header: Place,
     pub trailer: Place,
     pub blocks: u32,
-    pub through: [u32; 9],
+    pub through: [u32; MOST_REELS],
 }
 
 impl Group {
@@ -69,12 +70,13 @@ impl Group {
             header: at,
             trailer: at,
             blocks: 0,
-            through: [0; 9],
+            through: [0; MOST_REELS],
         }
     }
 }
 
 // `Steady` stands in the contracts of the steps and not here as an invariant: anyone may set the fields, and `new` takes any number of reels.
+// Each private step promises it too, since `step` has it from the one that it ends in.
 #[derive(Clone, Copy)]
 pub struct Machine {
     // the deck's reels
@@ -83,10 +85,10 @@ pub struct Machine {
     // the first directory, and what it says
     pub directory: [u8; DIRECTORY_LENGTH],
     pub layout: Layout,
-    // the group that is read, and those that have been read: a table of five and a count, since there is no heap and a machine is copied whole
+    // the group that is read, and those that have been read: a table and a count, since an `ArrayVec` is not `Copy`, as this public type is
     pub group: Group,
     pub groups: usize,
-    pub table: [Group; 5],
+    pub table: [Group; MOST_BANDS],
     // the bands that their headers name
     pub bands: Bands,
 }

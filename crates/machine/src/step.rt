@@ -1,7 +1,8 @@
 // One block more: what the machine does with each, by what it expects.
-ghost use Rattle.std.specs.Prelude.{◌≡◌, Ok, OnOk};
+ghost use Rattle.std.specs.Prelude.{◌≡◌, length, Ok, OnOk};
 ghost use Rattle.records.specs.Directories.{first_directory};
-ghost use Rattle.records.specs.Records.{recorded};
+ghost use Rattle.records.specs.Layouts.{record_length};
+ghost use Rattle.records.specs.Records.{checked, recorded};
 ghost use Rattle.machine.specs.Machines.{Steady, stepped, set_stepped, block_of, decked, deck_says, record_says, refusal, unexpected, first, later, on_directory, on_header, on_attribute, next_group, ends_in_image, ends_behind_trailer, expecting, closed, step};
 
 use super::machine::{Expect, Group, Machine, Onward, Place};
@@ -11,7 +12,16 @@ use records::{
     RecordFault, SetFault, check, first_directory, read_header, same_directory,
 };
 
+// Place and bytes are two parameters: a struct of both would be made in each arm of `step`, only to be taken apart in each method.
 impl Machine {
+    // The checks of a record that is no directory.
+    pub(crate) fn check(&self, bytes: &[u8], kind: u8, number: u64) -> Result<(), RecordFault>
+        ensures says { recorded result ≡ checked bytes.now (record_length self.now.layout.form) kind number }
+        ensures long { OnOk result (length bytes.now ≡ record_length self.now.layout.form) }
+    {
+        check(bytes, self.layout.form.record_length(), kind, number)
+    }
+
     fn first(
         &mut self,
         bytes: &[u8; DIRECTORY_LENGTH],
@@ -51,6 +61,7 @@ impl Machine {
         ensures stays_steady { Steady self.old → OnOk result (Steady self.new) }
     {
         check(bytes, DIRECTORY_LENGTH, DIRECTORY, 1)?;
+        // Copied and not lent: `first_chunk` was tried, and four clauses of the contract stay open.
         let mut directory = [0; DIRECTORY_LENGTH];
         directory.copy_from_slice(bytes);
         if at.reel == 1 {
@@ -65,7 +76,8 @@ impl Machine {
         ensures says { stepped result self.new ≡ on_header self.old at bytes.now }
         ensures stays_steady { Steady self.old → OnOk result (Steady self.new) }
     {
-        check(bytes, self.layout.form.record_length(), HEADER, 1)?;
+        self.check(bytes, HEADER, 1)?;
+        // 0 where no band came before, as `read_header` takes any byte.
         let last = match self.group.content {
             Content::One(band) => band,
             Content::Mixed(_) => 0,
@@ -86,12 +98,7 @@ impl Machine {
         } else {
             ANNOTATION
         };
-        check(
-            bytes,
-            self.layout.form.record_length(),
-            kind,
-            u64::from(number),
-        )?;
+        self.check(bytes, kind, u64::from(number))?;
         self.expect = if number < self.layout.attributes() {
             Expect::Attribute(number + 1)
         } else {
@@ -159,6 +166,7 @@ impl Machine {
         ensures says { stepped result self.new ≡ step self.old at (block_of seen.entry) }
         ensures stays_steady { Steady self.old → OnOk result (Steady self.new) }
     {
+        // What is not expected has an arm for each state: as one last arm for all it was tried, and the clause `says` stays open there.
         match (self.expect, seen) {
             (Expect::Directory(onward), Some(Kind::Record(bytes))) => self.directory(
                 at, bytes, onward,
@@ -175,18 +183,18 @@ impl Machine {
             (Expect::Attribute(_), other) => unexpected(other),
             (Expect::AttributeMark, Some(Kind::Mark)) => self.turn(Expect::FirstImage),
             (Expect::AttributeMark, other) => unexpected(other),
-            (Expect::FirstImage, Some(Kind::Record(bytes))) => self.image(at, bytes),
-            (Expect::FirstImage, Some(Kind::Bad)) => self.bad_line(at),
+            (Expect::FirstImage | Expect::Image, Some(Kind::Record(bytes))) => self.image(
+                at, bytes,
+            ),
+            (Expect::FirstImage | Expect::Image | Expect::Resumed, Some(Kind::Bad)) =>
+                self.bad_line(at),
             (Expect::FirstImage, other) => unexpected(other),
-            (Expect::Image, Some(Kind::Record(bytes))) => self.image(at, bytes),
-            (Expect::Image, Some(Kind::Bad)) => self.bad_line(at),
             (Expect::Image, Some(Kind::Mark)) => self.turn(Expect::BehindImage),
             (Expect::Image, other) => unexpected(other),
             (Expect::BehindImage, Some(Kind::Record(bytes))) => self.first_trailer(at, bytes),
             (Expect::BehindImage, Some(Kind::Mark)) => Ok(self.end_in_image(at)?),
             (Expect::BehindImage, other) => unexpected(other),
             (Expect::Resumed, Some(Kind::Record(bytes))) => self.resumed(at, bytes),
-            (Expect::Resumed, Some(Kind::Bad)) => self.bad_line(at),
             (Expect::Resumed, other) => unexpected(other),
             (Expect::Trailer(number), Some(Kind::Record(bytes))) => self.trailer(number, bytes),
             (Expect::Trailer(_), other) => unexpected(other),

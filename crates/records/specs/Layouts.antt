@@ -10,13 +10,13 @@ use Rattle.records.specs.declared.layout.Sensor.{Sensor}
 use Rattle.records.specs.declared.layout.Sensor.TheVariants.{Mss, Rbv}
 
 -- The letters by which a directory names the instrument and the correction.
-abbrev pub sensor_letter : Sensor → List ℕ
-sensor_letter Mss = chars.codes "M"
-sensor_letter Rbv = chars.codes "R"
+abbrev pub sensor_text : Sensor → List ℕ
+sensor_text Mss = chars.codes "M"
+sensor_text Rbv = chars.codes "R"
 
-abbrev pub correction_letters : Correction → List ℕ
-correction_letters Corrected = chars.codes "CP"
-correction_letters Uncorrected = chars.codes "CA"
+abbrev pub correction_text : Correction → List ℕ
+correction_text Corrected = chars.codes "CP"
+correction_text Uncorrected = chars.codes "CA"
 
 abbrev pub sensor_in : Form → Sensor
 sensor_in Interleaved = Mss

@@ -4,15 +4,18 @@ ghost use Rattle.records.specs.Bands.{weight, present, one_band, more_bands, no_
 
 use super::header::Content;
 
-// The codes of the bands present, in rising order: 4 to 8, or a vidicon's letter. A count stands beside an array, since there is no heap and the
-// bands are copied whole with a machine.
+// The most bands of a set.
+pub const MOST_BANDS: usize = 5;
+
+// The codes of the bands present, in rising order: 4 to 8, or a vidicon's letter.
+// A count stands beside an array: an `ArrayVec` is not `Copy`, as this public type is, and callers may set the fields.
 #[derive(Clone, Copy)]
 pub struct Bands {
     pub count: usize,
-    pub codes: [u8; 5],
+    pub codes: [u8; MOST_BANDS],
 }
 
-// The bit of the band at a place among 4 to 8, in the byte of bands present.
+// The bit of the band at a place among 4 to 8, in the byte of bands present. The place is a public parameter, and may be any number.
 pub fn weight(place: u32) -> u8
     ensures { result ≡ weight place }
 {
@@ -29,7 +32,7 @@ pub fn weight(place: u32) -> u8
 pub fn present(mask: u8, place: u32) -> bool
     ensures { result ≡ present mask place }
 {
-    mask / weight(place) % 2 == 1
+    mask & weight(place) != 0
 }
 
 impl Bands {
@@ -38,7 +41,7 @@ impl Bands {
     {
         Bands {
             count: 0,
-            codes: [0; 5],
+            codes: [0; MOST_BANDS],
         }
     }
 
@@ -59,9 +62,9 @@ impl Bands {
         match content {
             Content::One(code) => self.add(code),
             Content::Mixed(mask) => {
-                for place in 0..5 {
-                    if present(mask, place) {
-                        self.add(4 + place as u8);
+                for place in 0..5u8 {
+                    if present(mask, u32::from(place)) {
+                        self.add(4 + place);
                     }
                 }
             }

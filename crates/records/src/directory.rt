@@ -21,7 +21,7 @@ fn form_of(letter: u8, order: u8) -> Option<Form>
     }
 }
 
-// The mission by its digit.
+// The mission by its digit. It is no `TryFrom`, since a `u8` comes out of it, no type of its own.
 fn mission_of(digit: u8) -> Option<u8>
     ensures { result ≡ mission_of digit }
 {
@@ -31,7 +31,7 @@ fn mission_of(digit: u8) -> Option<u8>
     }
 }
 
-// The correction by its second letter.
+// The correction by its second letter. No caller reads the error: `first_directory` tells no cause.
 impl TryFrom<u8> for Correction {
     type Error = SetFault;
 
@@ -90,6 +90,7 @@ fn fixed(bytes: &[u8; DIRECTORY_LENGTH], layout: Layout, reels: u32) -> bool
 }
 
 // The layout that the first directory of a set names, if all its values are in order.
+// An Option, since it is public: its caller names the one fault that it can be.
 #[tactic(auto, unfolding(crate::specs::Directories::first_directory))]
 pub fn first_directory(bytes: &[u8; DIRECTORY_LENGTH], reels: u32) -> Option<Layout>
     ensures { result ≡ first_directory bytes.now reels }

@@ -1,6 +1,7 @@
 // What can be wrong with a tape set, by the layer that finds it.
 ghost use Rattle.std.specs.Prelude.{◌≡◌};
-ghost use Rattle.records.specs.Faults.{deck_number, record_number, set_number, number, layer};
+ghost use Rattle.records.specs.declared.fault.Cause.TheVariants.{Deck, Record, Set};
+ghost use Rattle.records.specs.Faults.{number, layer};
 
 // The deck's layer: no block where one must be, or a bad block outside an image file.
 #[derive(Clone, Copy, PartialEq, Eq, Debug)]
@@ -49,9 +50,9 @@ pub enum Cause {
     Set(SetFault),
 }
 
-// By hand, as the two below: a derived `From` would promise nothing of the fault's number.
+// By hand, as the two below: a derived `From` would promise nothing.
 impl From<DeckFault> for Cause {
-    ghost from_gives = { λ e c. number c ≡ deck_number e };
+    ghost from_gives = { λ e c. c ≡ Deck e };
 
     fn from(fault: DeckFault) -> Cause {
         Cause::Deck(fault)
@@ -59,7 +60,7 @@ impl From<DeckFault> for Cause {
 }
 
 impl From<RecordFault> for Cause {
-    ghost from_gives = { λ e c. number c ≡ record_number e };
+    ghost from_gives = { λ e c. c ≡ Record e };
 
     fn from(fault: RecordFault) -> Cause {
         Cause::Record(fault)
@@ -67,7 +68,7 @@ impl From<RecordFault> for Cause {
 }
 
 impl From<SetFault> for Cause {
-    ghost from_gives = { λ e c. number c ≡ set_number e };
+    ghost from_gives = { λ e c. c ≡ Set e };
 
     fn from(fault: SetFault) -> Cause {
         Cause::Set(fault)

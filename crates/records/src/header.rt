@@ -7,6 +7,7 @@ use super::layout::{Form, Layout};
 use super::record::byte_at;
 
 // Which bands an image file holds: one, by its code, or several interleaved, by the header's byte of bands present.
+// Both are a `u8`, since the fields are public and callers may set them to any byte.
 #[derive(Clone, Copy, PartialEq, Eq, Debug)]
 pub enum Content {
     One(u8),
@@ -43,12 +44,8 @@ fn band_fits(band: u8, layout: Layout, last: u8) -> bool
     match layout.form {
         Form::Interleaved => band == b'0',
         Form::Sequential => {
-            let of_mission = match band {
-                b'4'..=b'7' => true,
-                b'8' => layout.mission == 3,
-                _ => false,
-            };
-            of_mission && u32::from(last) + 48 < u32::from(band)
+            (matches!(band, b'4'..=b'7') || band == b'8' && layout.mission == 3)
+                && u32::from(last) + u32::from(b'0') < u32::from(band)
         }
         Form::Vidicon => matches!(band, b'A'..=b'D'),
     }
@@ -83,6 +80,7 @@ fn content_of(band: u8, mask: u8, form: Form) -> Content
 }
 
 // The values of a header, checked in the order of their bytes.
+// `last` is 0 where no band came before: it is a public parameter, and may be any byte.
 #[tactic(auto, unfolding(crate::specs::Headers::header))]
 pub fn read_header(bytes: &[u8], layout: Layout, last: u8) -> Result<Header, SetFault>
     ensures { headed result ≡ header bytes.now layout last }

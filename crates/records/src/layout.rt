@@ -1,6 +1,6 @@
 // What the first directory says of a set: which layout it follows.
 ghost use Rattle.std.specs.Prelude.{◌≡◌, Some};
-ghost use Rattle.records.specs.Layouts.{sensor_letter, correction_letters, sensor_in, record_length, order_byte, ancillaries, annotations, attributes, stride};
+ghost use Rattle.records.specs.Layouts.{sensor_text, correction_text, sensor_in, record_length, order_byte, ancillaries, annotations, attributes, stride};
 
 use std::fmt;
 
@@ -13,7 +13,7 @@ pub enum Sensor {
 
 // The letter by which a directory names the instrument.
 impl fmt::Display for Sensor {
-    ghost output = { λ s. Some (sensor_letter s) };
+    ghost output = { λ s. Some (sensor_text s) };
 
     fn fmt<W: fmt::Write>(&self, f: &mut fmt::Formatter<W>) -> fmt::Result {
         match self {
@@ -52,7 +52,7 @@ impl Correction {
 
 // The two letters by which a directory names the correction.
 impl fmt::Display for Correction {
-    ghost output = { λ c. Some (correction_letters c) };
+    ghost output = { λ c. Some (correction_text c) };
 
     fn fmt<W: fmt::Write>(&self, f: &mut fmt::Formatter<W>) -> fmt::Result {
         match self {

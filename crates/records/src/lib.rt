@@ -8,7 +8,7 @@ mod header;
 mod layout;
 mod record;
 
-pub use bands::{Bands, present, weight};
+pub use bands::{Bands, MOST_BANDS, present, weight};
 pub use directory::{DIRECTORY_LENGTH, first_directory, same_directory};
 pub use fault::{Cause, DeckFault, RecordFault, SetFault};
 pub use header::{Content, Header, read_header};

@@ -128,22 +128,17 @@ module _ (r : Recording) (v : Valid r) where
         places = f.stood;
       }
 
-same_ok : (a b : Accepted) (o : Result Accepted Fault) → o ≡ Ok a → o ≡ Ok b → a ≡ b
-same_ok a b o p q = cc
-
-not_both : {Y : Type 0} (a : Accepted) (f : Fault) (o : Result Accepted Fault) → o ≡ Ok a → o ≡ Err f → Y
-not_both a f o p q = cc
-
 obeys_set : (set : TapeSet) (a : Accepted) → Recorded set → surveyed set ≡ Ok a → Obeys a set
 obeys_set set a s e =
     let is = accepts s.recording s.valid in
-    let same : found s.recording s.valid ≡ a = same_ok (found s.recording s.valid) a (surveyed set) (sym (ap surveyed s.is) ∙ is) e in
+    let there : surveyed set ≡ Ok (found s.recording s.valid) = sym (ap surveyed s.is) ∙ is in
+    let same : found s.recording s.valid ≡ a = cc in
     subst (λ k. Obeys k set) same (subst (λ k. Obeys (found s.recording s.valid) k) s.is (obeys s.recording s.valid))
 
 -- What a survey says of a sound set is right.
 pub judged : (set : TapeSet) (o : Result Accepted Fault) → Sound set → o ≡ surveyed set → Judged o set
 judged set (Ok a) sound e = obeys_set set a (recorded set a sound.some sound.few (sym e)) (sym e)
 judged set (Err f) sound e = record {
-  not_written = λ r v is. not_both (found r v) f (surveyed set) (sym (ap surveyed is) ∙ accepts r v) (sym e);
+  not_written = λ r v is. let there : surveyed set ≡ Ok (found r v) = sym (ap surveyed is) ∙ accepts r v in cc;
   final = λ other long same. final set other f (sym e) long same;
 }

@@ -36,17 +36,15 @@ impl Reading {
         ensures more { IfOk result (λ b. b ≡ is_some (look (D.meaning deck.old) at.reel at.block)) }
         ensures stays_steady { Steady self.old.machine → OnOk result (Steady self.new.machine) }
     {
-        let Ok(kind) = deck.fetch(at.reel, at.block, &mut self.scratch) else {
-            return unreachable();
-        };
-        match self.machine.step(at, seen_as(kind, &self.scratch)) {
-            Ok(()) => Ok(kind.is_some()),
-            Err(cause) => Err(TapeFault {
+        let kind = deck.fetch(at.reel, at.block, &mut self.scratch).unwrap();
+        self.machine
+            .step(at, seen_as(kind, &self.scratch))
+            .map_err(|cause| TapeFault {
                 cause,
                 reel: at.reel,
                 block: at.block,
-            }),
-        }
+            })?;
+        Ok(kind.is_some())
     }
 
     // Reads a reel from its first block to its end.
