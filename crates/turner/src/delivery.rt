@@ -14,6 +14,7 @@ use machine::Place;
 use reader::Spot;
 
 // The record that a body comes from: one of zeros, or one at a place below.
+// An Option of a place would make the answer of `find` an Option of an Option.
 #[derive(Clone, Copy)]
 pub enum Found {
     Blank,
@@ -21,6 +22,7 @@ pub enum Found {
 }
 
 // Where a record of some length stands, if the place below bears one.
+// `stays` is said by each function that asks a deck, here and below: only a clause can tell that a `&mut` deck means what it meant.
 fn borne<D: Deck>(deck: &mut D, spot: Spot, size: usize) -> Option<Place>
     ensures stays { D.meaning deck.new ≡ D.meaning deck.old }
     ensures value { result ≡ borne_at (D.meaning deck.old) size spot }
@@ -83,6 +85,7 @@ fn blank(body: &mut [u8])
 }
 
 // Puts a record whose body is zero at the front of the buffer.
+// `value` and `bytes` are a pair here and below as in `Deck::fetch`: with one definition for both, a proof would take it apart again.
 fn zero_record(source: Source, buffer: &mut [u8]) -> Result<Kind<usize>, Short>
     ensures value { there result ≡ fetched (Some (record_block (λ body. body) source.kind source.number (Some (replicate (source.size - 6) 0)))) (length buffer.old) }
     ensures bytes { buffer.new ≡ filled (Some (record_block (λ body. body) source.kind source.number (Some (replicate (source.size - 6) 0)))) buffer.old }
@@ -148,12 +151,10 @@ impl Turning {
         ensures value { there result ≡ fetched (Some (piece_block self.now (D.meaning deck.old) piece)) (length buffer.old) }
         ensures bytes { buffer.new ≡ filled (Some (piece_block self.now (D.meaning deck.old) piece)) buffer.old }
     {
-        match fetch_from(deck, self.source_of(piece), buffer)? {
-            Kind::Record(size) => {
-                self.change(piece, &mut buffer[6..size]);
-                Ok(Kind::Record(size))
-            }
-            other => Ok(other),
+        let kind = fetch_from(deck, self.source_of(piece), buffer)?;
+        if let Kind::Record(size) = kind {
+            self.change(piece, &mut buffer[6..size]);
         }
+        Ok(kind)
     }
 }

@@ -13,7 +13,7 @@ pub enum Order {
     ByBand,
 }
 
-// An accepted set that keeps to the bounds of every accepted set, and the order in which it is shown: the other one.
+// An accepted set within the bounds (`small`), and the order in which it is shown: the other one.
 #[derive(Clone, Copy)]
 pub struct Turning {
     pub accepted: Accepted,
@@ -99,6 +99,6 @@ impl Turning {
     pub(crate) fn trailers(&self) -> u32
         ensures { result ≡ trailers self.now }
     {
-        first_group(&self.accepted).trailers
+        self.first_group().trailers
     }
 }

@@ -23,10 +23,7 @@ impl<D: Deck> Turner<D> {
         ensures means { shown result.turning (D.meaning result.deck) ≡ turned (D.meaning deck) }
     {
         let mut deck = deck;
-        let turning = match survey(&mut deck) {
-            Ok(accepted) => Turning::of(accepted),
-            Err(_) => None,
-        };
+        let turning = survey(&mut deck).ok().and_then(Turning::of);
         Turner { deck, turning }
     }
 
@@ -43,8 +40,7 @@ impl<D: Deck> Turner<D> {
     pub fn into_deck(self) -> D
         ensures { result ≡ self.deck }
     {
-        let Turner { deck, turning: _ } = self;
-        deck
+        self.deck
     }
 }
 

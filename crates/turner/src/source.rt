@@ -4,6 +4,7 @@ ghost use Rattle.std.specs.Prelude.{◌≤◌};
 use reader::Spot;
 
 // Where a body comes from: zeros, a record below, or nothing where a line has no place.
+// `Nowhere` is a case of three: beside an Option of the other two, five of the makers would say `Some`.
 #[derive(Clone, Copy)]
 pub enum Origin {
     Zero,
@@ -15,6 +16,7 @@ pub enum Origin {
 // bytes than a tape's longest.
 #[derive(Clone, Copy)]
 pub struct Source {
+    // A record's type is the byte of the layout, as `records` names it.
     pub kind: u8,
     pub number: u32,
     pub size: usize,

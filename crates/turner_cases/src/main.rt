@@ -11,12 +11,13 @@ use turner::Turner;
 use turning::{strip_bytes, strip_turned};
 
 // The sum of all bytes, each times its place counted from 1, modulo 2^32.
-fn checksum(bytes: &[u8]) -> u32 {
+// `reader_cases` has these five lines too: a crate for them would be longer.
+fn checksum(bytes: &[u8]) -> u64 {
     let mut sum: u64 = 0;
-    for (i, byte) in bytes.iter().enumerate() {
-        sum = sum.wrapping_add((i as u64 + 1).wrapping_mul(u64::from(*byte)));
+    for (index, byte) in bytes.iter().enumerate() {
+        sum = sum.wrapping_add((index as u64 + 1).wrapping_mul(u64::from(*byte)));
     }
-    (sum & 0xffff_ffff) as u32
+    sum % (1 << 32)
 }
 
 // A strip: its length, its checksum and what is listed of it.
@@ -37,7 +38,7 @@ fn show_deck<D: Deck + Drop>(rt: &HostRuntime, deck: D) -> anyhow::Result<()> {
     show(rt, strip_bytes(rt.alloc(), &mut deck)?)
 }
 
-// A strip under so many turners.
+// A strip under so many turners: an arm for each, since each pile is a type of its own.
 fn pile(rt: &HostRuntime, count: &str, strip: Strip) -> anyhow::Result<()> {
     match count {
         "1" => show_deck(rt, Turner::new(strip)),

@@ -49,7 +49,7 @@ impl TurnError {
         ensures { IfOk result (λ t. line_of self ≡ Some (string_bytes t)) }
     {
         match self {
-            TurnError::Image(cause) => refusal(heap, cause),
+            TurnError::Image(refused) => refusal(heap, refused),
             TurnError::Tape(fault) => fault_line(heap, fault.into()),
             TurnError::Memory(short) => Err(short),
         }

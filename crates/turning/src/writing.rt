@@ -31,6 +31,7 @@ fn record_bytes(heap: Global, content: &[u8]) -> Result<Vec<u8>, AllocError>
 }
 
 // The bytes of a block, or none where there is no such block.
+// `stays` is said here and below, since only a clause can tell that a `&mut` deck means what it meant.
 fn block_bytes<D: Deck>(
     heap: Global,
     deck: &mut D,
@@ -67,6 +68,7 @@ fn reel_bytes<D: Deck>(heap: Global, deck: &mut D, reel: u32) -> Result<Vec<u8>,
 }
 
 // The set on a deck as a strip.
+// Listing's `blocks` goes over the reels in this shape too: a function for both would take the step as a closure, and be no shorter.
 pub fn strip_bytes<D: Deck>(heap: Global, deck: &mut D) -> Result<Vec<u8>, AllocError>
     ensures stays { D.meaning deck.new ≡ D.meaning deck.old }
     ensures bytes { IfOk result (λ v. v.items ≡ encoded (D.meaning deck.old)) }

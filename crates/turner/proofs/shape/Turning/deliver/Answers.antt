@@ -13,6 +13,6 @@ returns-in-Record-clause-bytes g c =
     let f = changed c.args.self.now c.args.piece in
     let source = c.source_of.result in
     let size = c.in-Record.size in
-    let took = taken set source buffer size (sym c.fetch_from.ensures.value ∙ ap there c.in_ok-other.was ∙ ap (λ k. there (Ok k)) c.in-Record.is) in
+    let took = taken set source buffer size (sym c.fetch_from.ensures.value ∙ ap there c.in_ok-kind.was ∙ ap (λ k. there (Ok k)) c.in-Record.is) in
     changed_bytes f (length_changed c.args.self.now c.args.piece) set source buffer size took c.fetch_from.new.buffer c.change.new.body c.fetch_from.ensures.bytes c.change.ensures
     ∙ ap (λ b. filled (Some b) buffer) (ap (source_block f set) c.source_of.ensures)
