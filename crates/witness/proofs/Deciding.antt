@@ -1,5 +1,5 @@
 -- Two answers are equal exactly where all that they say is, and their buffers are, byte by byte.
-use Rattle.std.proofs.Common.{◌≡◌, ℕ, ◌-◌, ◌/◌, ◌==◌, Bool, false, ◌&&◌, Ok, Err, Result, Decides, sym, refl, ap, ◌∙◌, true≢false, vec_items, arith}
+use Rattle.std.proofs.Common.{◌≡◌, ℕ, ◌-◌, ◌/◌, ◌==◌, Bool, false, ◌&&◌, List, map, Ok, Err, Result, Decides, sym, refl, ap, subst, ◌∙◌, true≢false, vec_items, arith}
 use Rattle.std.specs.Cmp.Lexicographic.{pointwise}
 use Rattle.std.proofs.lemmas.Bool.Decides.{Decides-eqb}
 use Rattle.std.proofs.lemmas.Slice.Eq.{slice_eq-Decides}
@@ -40,9 +40,10 @@ use Rattle.reader.specs.declared.refusal.CallerFault.TheVariants as callers
 use Rattle.reader.specs.declared.refusal.Refusal.{Refusal}
 use Rattle.reader.specs.declared.refusal.Refusal.TheVariants.{Tape, Caller}
 use Rattle.witness.specs.Comparing.{same_answer, same_answered}
+use Rattle.witness.specs.contracts.calls.AnsweredPartialEq.TheImpl as derived
 use Rattle.witness.specs.Replies.{answered}
 use Rattle.witness.specs.declared.calls.Answered.{Answered}
-use Rattle.witness.proofs.Alike.{both}
+use Rattle.witness.proofs.Alike.{both, all_decided}
 use Rattle.witness.proofs.Runs.{pair}
 
 -- Variants without fields, each told by a number from which its place among them can be read.
@@ -171,3 +172,7 @@ answered_decides x y =
     both (same_answer x.answer y.answer) (pointwise ◌==◌ (vec_items x.buffer) (vec_items y.buffer)) (answer_decides x.answer y.answer)
     (slice_eq-Decides Decides-eqb (vec_items x.buffer) (vec_items y.buffer) (pointwise ◌==◌ (vec_items x.buffer) (vec_items y.buffer)) refl)
     pair (λ e. ap (λ p. p.0) e) (λ e. ap (λ p. p.1) e)
+
+-- Lists of answers are equal exactly where they say the same.
+pub lists_decide : (r : Bool) (xs ys : List Answered) → r ≡ pointwise (derived.ghosts).eq xs ys → Decides r (map answered xs ≡ map answered ys)
+lists_decide r xs ys e = subst (λ b. Decides b (map answered xs ≡ map answered ys)) (sym e) (all_decided answered same_answered answered_decides xs ys)

@@ -8,6 +8,7 @@ use deck::Deck;
 use std::alloc::{AllocError, Global};
 
 // Whether two lists of answers say the same, with every byte of the buffers.
+#[tactic(auto, using(crate::proofs::Deciding::lists_decide))]
 fn same(first: &[Answered], second: &[Answered]) -> bool
     ensures { Decides result (map answered first.now ≡ map answered second.now) }
 {
