@@ -3,7 +3,8 @@ ghost use Rattle.bridge.specs.declared.either.Either.TheVariants.{Left, Right};
 
 use deck::{Deck, Kind, Short};
 
-// A deck of one kind or of another. It means what the deck in it means.
+// A deck of one kind or of another. It means what the deck in it means. The bridge's own enum, since it is a `Deck`: a trait of
+// one crate on a type of another stands in neither's hands.
 #[derive(Drop)]
 pub(crate) enum Either<A, B> {
     Left(A),
