@@ -29,7 +29,7 @@ fn played(heap: Global, form: u8, image: &[u8], asks: &[Ask]) -> Result<Told, Al
     }
 }
 
-// Puts words and bytes at the front of the caller's, if both fit. Answers how many words there were.
+// Puts words and bytes at the front of the caller's, if both fit. Answers how many words there were. Two slices, since C passes two.
 pub(crate) fn put(told: Told, words: &mut [u64], buffers: &mut [u8]) -> usize
     ensures { Put (sending told) words.old buffers.old words.new buffers.new result }
 {
@@ -38,8 +38,8 @@ pub(crate) fn put(told: Told, words: &mut [u64], buffers: &mut [u8]) -> usize
     if all.len() > words.len() || bytes.len() > buffers.len() {
         return 0;
     }
-    words[0..all.len()].copy_from_slice(all);
-    buffers[0..bytes.len()].copy_from_slice(bytes);
+    words[..all.len()].copy_from_slice(all);
+    buffers[..bytes.len()].copy_from_slice(bytes);
     all.len()
 }
 

@@ -29,7 +29,8 @@ pub struct WantedBlock {
     pub block: u32,
 }
 
-// A reader that has surveyed its deck so many times.
+// A reader that has surveyed its deck so many times. `stays` and `remembers`, here and below, are of this call alone: a type that held
+// them would need the value before the call.
 fn surveyed<D: Deck>(deck: D, surveys: u32) -> Reader<D>
     ensures stays { D.meaning result.deck ≡ D.meaning deck }
     ensures remembers { result.accepted ≡ after_surveys surveys (D.meaning deck) }
@@ -97,7 +98,8 @@ fn blocks_of<D: Deck + Drop>(deck: D, blocks: &[WantedBlock], buffer: &mut [u8])
     count
 }
 
-// Opens an image, surveys it so many times, and reads lines from it into one buffer. Answers how many were delivered.
+// Opens an image, surveys it so many times, and reads lines from it into one buffer. Answers how many were delivered. C has a name for
+// each of two functions, this one and that for blocks; what they share is in `opened`.
 #[unsafe(no_mangle)]
 pub extern "C" fn gehunlo_lines(
     heap: Global,

@@ -3,7 +3,8 @@ ghost use Rattle.bridge.specs.declared.either.Either.TheVariants.{Left, Right};
 
 use deck::{Deck, Kind, Short};
 
-// A deck of one kind or of another. It means what the deck in it means.
+// A deck of one kind or of another. It means what the deck in it means. The bridge's own enum, since it is a `Deck`: an impl
+// of another crate's trait must name a type of this crate.
 #[derive(Drop)]
 pub(crate) enum Either<A, B> {
     Left(A),

@@ -48,7 +48,7 @@ fn fetch_number(fetched: Result<Option<Kind<usize>>, Short>) -> (u64, u64)
     }
 }
 
-// Asks a deck for a block in both ways.
+// Asks a deck for a block in both ways. `stays` is the deck's own clause, said of this call.
 fn look_at<D: Deck>(heap: Global, deck: &mut D, fetch: &Fetch) -> Result<Seen, AllocError>
     ensures stays { D.meaning deck.new ≡ D.meaning deck.old }
     ensures words { IfOk result (λ s. s.words ≡ words_of (D.meaning deck.old) fetch.now) }
@@ -94,8 +94,9 @@ fn shown(
     }
 }
 
-// Opens an image and asks it for blocks, through so many turners piled on it, and puts the number of reels, four words for each block and the bytes of all buffers at the front
-// of the caller's. Answers how many words were written; 0, and nothing is written, where memory or room does not suffice.
+// Opens an image and asks it for blocks, through so many turners piled on it, and puts the number of reels, four words for each block
+// and the bytes of all buffers at the front of the caller's. Answers how many words were written; 0, and nothing is written, where
+// memory or room does not suffice.
 #[unsafe(no_mangle)]
 pub extern "C" fn gehunlo_show(
     heap: Global,

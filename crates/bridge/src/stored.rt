@@ -15,7 +15,8 @@ pub(crate) type Stored = Either<Strip, Indexed>;
 // Turners piled on a deck: none, or one or two.
 pub(crate) type Pile<D> = Either<D, Either<Turner<D>, Turner<Turner<D>>>>;
 
-// Opens an image: a strip for form 0, an indexed one for any other. The form is a number up to here, since it comes from C.
+// Opens an image: a strip for form 0, an indexed one for any other. The form is a number up to here, since it comes from C; that goes
+// for form, image and turners, which each exported function takes as C passes them and hands on as they are.
 pub(crate) fn opened(form: u8, bytes: Vec<u8>) -> Result<Stored, Unopened>
     ensures { told result ⟦<Stored as Deck>⟧.meaning ≡ opened form bytes.items }
 {

@@ -22,7 +22,8 @@ fn one(which: u64, number: u64) -> Words
     [which, number, 0, 0, 0, 0]
 }
 
-// A summary: the letters of sensor and correction, as on tape (of CP and CA the second), and the numbers.
+// A summary: the letters of sensor and correction, as on tape (of CP and CA the second), and the numbers. The letters are matched here,
+// since they go to C as numbers, and `Display` writes text.
 fn summary(outline: Outline) -> Words
     ensures { result ≡ six (outlined outline) }
 {

@@ -59,8 +59,7 @@ bands_text set m lines cs = flat_map (λ c. band_text c (readable set m c lines)
 
 -- What is written of some bands, one after another.
 abbrev pub each : (ℕ → List ℕ) → List ℕ → List ℕ
-each text [] = []
-each text (c ∷ cs) = text c ++ each text cs
+each text cs = flat_map text cs
 
 -- The codes of the bands that are remembered.
 abbrev pub present : Option Accepted → List ℕ

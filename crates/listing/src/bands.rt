@@ -7,7 +7,7 @@ use deck::Deck;
 use reader::{LONGEST_BODY, Reader, codes};
 use std::alloc::{AllocError, Global};
 
-// How many of the lines of a band, from line 1 on, the reader delivers.
+// How many of the lines of a band, from line 1 on, the reader delivers. What `stays` and `remembers` say is of this call alone.
 fn readable<D: Deck>(reader: &mut Reader<D>, code: u8, lines: u32) -> u32
     ensures stays { D.meaning reader.new.deck ≡ D.meaning reader.old.deck }
     ensures remembers { reader.new.accepted ≡ reader.old.accepted }

@@ -20,7 +20,7 @@ pub fn fault_line(heap: Global, refusal: Refusal) -> Result<String, AllocError>
     format!(in heap; "FAULT {number} {layer} {reel} {block}\n")
 }
 
-// The line of an accepted set.
+// The line of an accepted set. The tests of a reader print a text of their own, with another word and without a line's end.
 pub(crate) fn set_line(heap: Global, outline: Outline) -> Result<String, AllocError>
     ensures { IfOk result (λ t. string_bytes t ≡ set_text outline) }
 {
@@ -53,7 +53,7 @@ impl fmt::Display for Band {
     }
 }
 
-// The name of a band.
+// The name of a band. Any number is answered, so the code is a number and no enum.
 pub fn band_name(heap: Global, code: u8) -> Result<String, AllocError>
     ensures { IfOk result (λ t. string_bytes t ≡ code_text code) }
 {

@@ -30,7 +30,7 @@ fn run_line(heap: Global, count: usize, kind: Kind<usize>) -> Result<String, All
     }
 }
 
-// The kinds of the blocks of a reel.
+// The kinds of the blocks of a reel. They are read once into memory, at most 65,535 of them.
 fn kinds<D: Deck>(heap: Global, deck: &mut D, reel: u32) -> Result<Vec<Kind<usize>>, AllocError>
     ensures stays { D.meaning deck.new ≡ D.meaning deck.old }
     ensures value { IfOk result (λ v. v.items ≡ map block_kind (reel_of (D.meaning deck.old) reel)) }
@@ -45,7 +45,8 @@ fn kinds<D: Deck>(heap: Global, deck: &mut D, reel: u32) -> Result<Vec<Kind<usiz
     Ok(kinds)
 }
 
-// The lines of the runs of blocks of these kinds.
+// The lines of the runs of blocks of these kinds. The loop counts a run: `chunk_by` would give slices,
+// and the kind of each by `first`, with a case for an empty one, which there is not.
 fn runs(heap: Global, kinds: &[Kind<usize>]) -> Result<String, AllocError>
     ensures { (reel : Reel) → kinds.now ≡ map block_kind reel → IfOk result (λ t. string_bytes t ≡ runs_text 1 reel) }
 {
@@ -63,7 +64,7 @@ fn runs(heap: Global, kinds: &[Kind<usize>]) -> Result<String, AllocError>
     Ok(text)
 }
 
-// A reel by its number.
+// A reel by its number. `stays`, here and at `kinds`, is the deck's own clause, said of this call.
 pub fn reel_listing<D: Deck>(heap: Global, deck: &mut D, reel: u32) -> Result<String, AllocError>
     ensures stays { D.meaning deck.new ≡ D.meaning deck.old }
     ensures text { IfOk result (λ t. string_bytes t ≡ reel_text reel (reel_of (D.meaning deck.old) reel)) }

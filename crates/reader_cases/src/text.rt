@@ -7,7 +7,7 @@ use reader::{Answer, Outline, Refusal, Report};
 use std::alloc::{AllocError, Global};
 use witness::Answered;
 
-// A summary: sensor, mission, correction, number of bands, lines.
+// A summary: sensor, mission, correction, number of bands, lines. Another text than that of a listing, whose line it is not.
 fn summary(heap: Global, outline: Outline) -> Result<String, AllocError>
     ensures { IfOk result (λ t. string_bytes t ≡ summary_text outline) }
 {
@@ -45,7 +45,8 @@ fn refusal_text(heap: Global, refusal: Refusal) -> Result<String, AllocError>
     format!(in heap; "refused {number} {layer} {reel} {block}")
 }
 
-// The sum of all bytes, each times its place counted from 1, modulo 2^32.
+// The sum of all bytes, each times its place counted from 1, modulo 2^32. The program turner_cases has these few lines too: a crate for
+// them alone would be longer.
 fn checksum(bytes: &[u8]) -> u64 {
     let mut sum: u64 = 0;
     for (index, byte) in bytes.iter().enumerate() {

@@ -7,10 +7,7 @@ use std::{fs, io};
 
 // The last part of a path.
 fn last_part(path: &str) -> &str {
-    match path.rsplit_once('/') {
-        Some((_, number)) => number,
-        None => path,
-    }
+    path.rsplit('/').next().unwrap_or(path)
 }
 
 fn main(rt: HostRuntime) -> io::Result<()> {
