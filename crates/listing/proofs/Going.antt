@@ -1,97 +1,106 @@
 -- How far a reel's runs have been written.
-use Rattle.std.proofs.Common.{◌≡◌, ℕ, zero, suc, ◌+◌, ◌<◌, ◌≤◌, true, false, cond, List, [], ◌∷◌, ◌++◌, map, length, drop, get_or, Some, None, Option, Bor, sym, refl, ap, ◌∙◌, append_assoc, append-nil, add-one, arith}
-use Rattle.std.proofs.lemmas.Bool.{eq-eqb, ne_eqb}
-use Rattle.std.proofs.lemmas.List.{length-map}
-use Rattle.std.proofs.lemmas.Option.{slice_get_past, slice_get_read}
-use Rattle.std.specs.List.{slice_get, HoldsAt}
-use Rattle.std.specs.Option.{option_copied, MatchOption, IfSome}
+use Rattle.std.proofs.Common.{◌≡◌, ℕ, zero, suc, ◌+◌, ◌-◌, ◌<◌, ◌≤◌, Bool, true, false, cond, List, [], ◌∷◌, ◌++◌, map, length, drop, get_or, Some, Bor, sym, refl, subst, ap, ◌∙◌, append_assoc, append-nil, arith, ◌==◌}
+use Rattle.std.proofs.lemmas.Bool.{eqb-true}
+use Rattle.std.proofs.lemmas.List.{length-map, length-append, drop_at, drop-map}
+use Rattle.std.specs.List.{slice_get, IsChunkByPrefix}
+use Rattle.std.specs.Fn.{ComputesOnPairs}
+use Rattle.std.specs.Iterator.{Yields}
+use Rattle.std.specs.Slice.Iter.{chunk_by_callee, chunk_by_steps}
+use Rattle.std.specs.declared.slice.ChunkBy.{ChunkBy}
+use denote.Param.Members.{Mut}
 use Rattle.deck.specs.Tape.{Block, written, mark, bad, Reel}
 use Rattle.deck.specs.declared.Kind.{Kind}
+use Rattle.deck.specs.declared.Kind.TheVariants.{Record, Mark, Bad}
 use Rattle.listing.specs.Blocks.{block_kind, alike, run_text, runs_text}
 
-alike_same : (b c : Block) → block_kind c ≡ block_kind b → alike b c ≡ true
-alike_same (written a) (written b) e = eq-eqb (length a) (length b) (cc)
-alike_same (written a) mark e = cc
-alike_same (written a) bad e = cc
-alike_same mark (written b) e = cc
-alike_same mark mark e = refl
-alike_same mark bad e = cc
-alike_same bad (written b) e = cc
-alike_same bad mark e = cc
-alike_same bad bad e = refl
+-- Whether two kinds are equal.
+abbrev pub same : Kind ℕ → Kind ℕ → Bool
+same (Record a) (Record b) = a == b
+same (Record a) Mark = false
+same (Record a) Bad = false
+same Mark (Record b) = false
+same Mark Mark = true
+same Mark Bad = false
+same Bad (Record b) = false
+same Bad Mark = false
+same Bad Bad = true
 
-alike_differ : (b c : Block) → (block_kind c ≡ block_kind b → ⊥) → alike b c ≡ false
-alike_differ (written a) (written b) ne = ne_eqb (length a) (length b) (λ e. ne (cc))
-alike_differ (written a) mark ne = refl
-alike_differ (written a) bad ne = refl
-alike_differ mark (written b) ne = refl
-alike_differ mark mark ne = absurd (ne refl)
-alike_differ mark bad ne = refl
-alike_differ bad (written b) ne = refl
-alike_differ bad mark ne = refl
-alike_differ bad bad ne = absurd (ne refl)
+same_alike : (b c : Block) → alike b c ≡ same (block_kind b) (block_kind c)
+same_alike (written a) (written b) = refl
+same_alike (written a) mark = refl
+same_alike (written a) bad = refl
+same_alike mark (written b) = refl
+same_alike mark mark = refl
+same_alike mark bad = refl
+same_alike bad (written b) = refl
+same_alike bad mark = refl
+same_alike bad bad = refl
 
-same_run : (xs : Reel) (i n : ℕ) (k : Kind ℕ) → slice_get (map block_kind xs) i ≡ Some k → slice_get (map block_kind xs) (suc i) ≡ Some k → runs_text n (drop i xs) ≡ runs_text (n + 1) (drop (suc i) xs)
-same_run [] i n k h e = cc
-same_run (b ∷ []) zero n k h e = cc
-same_run (b ∷ c ∷ xs) zero n k h e = ap (λ t. cond t (runs_text (n + 1) (c ∷ xs)) (run_text n (block_kind b) ++ runs_text 1 (c ∷ xs))) (alike_same b c (cc))
-same_run (b ∷ []) (suc i) n k h e = cc
-same_run (b ∷ c ∷ xs) (suc i) n k h e = same_run (c ∷ xs) i n k h e
+same_equal : (j k : Kind ℕ) → same j k ≡ true → j ≡ k
+same_equal (Record a) (Record b) e = ap Record (eqb-true a b e)
+same_equal (Record a) Mark e = cc
+same_equal (Record a) Bad e = cc
+same_equal Mark (Record b) e = cc
+same_equal Mark Mark e = refl
+same_equal Mark Bad e = cc
+same_equal Bad (Record b) e = cc
+same_equal Bad Mark e = cc
+same_equal Bad Bad e = refl
 
-run_ends : (xs : Reel) (i n : ℕ) (k : Kind ℕ) → slice_get (map block_kind xs) i ≡ Some k → (slice_get (map block_kind xs) (suc i) ≡ Some k → ⊥) → runs_text n (drop i xs) ≡ run_text n k ++ runs_text 1 (drop (suc i) xs)
-run_ends [] i n k h ne = cc
-run_ends (b ∷ []) zero n k h ne = let e : block_kind b ≡ k = cc in ap (run_text n) e ∙ sym (append-nil (run_text n k))
-run_ends (b ∷ c ∷ xs) zero n k h ne =
+-- The text of a reel whose first `suc m` blocks are a run.
+first_run : (xs : Reel) (m n : ℕ) (k : Kind ℕ) → slice_get (map block_kind xs) 0 ≡ Some k → suc m ≤ length xs
+    → ((i : ℕ) (d : Kind ℕ) → suc i ≤ m → same (get_or (map block_kind xs) i d) (get_or (map block_kind xs) (suc i) d) ≡ true)
+    → (suc m < length xs → (d : Kind ℕ) → same (get_or (map block_kind xs) m d) (get_or (map block_kind xs) (suc m) d) ≡ false)
+    → runs_text n xs ≡ run_text (n + m) k ++ runs_text 1 (drop (suc m) xs)
+first_run [] m n k h le along ends = absurd (omega arith)
+first_run (b ∷ []) zero n k h le along ends =
     let e : block_kind b ≡ k = cc in
-    ap (λ t. cond t (runs_text (n + 1) (c ∷ xs)) (run_text n (block_kind b) ++ runs_text 1 (c ∷ xs))) (alike_differ b c (λ a. ne (ap Some (a ∙ e)))) ∙ ap (λ x. run_text n x ++ runs_text 1 (c ∷ xs)) e
-run_ends (b ∷ []) (suc i) n k h ne = cc
-run_ends (b ∷ c ∷ xs) (suc i) n k h ne = run_ends (c ∷ xs) i n k h ne
+    let none : n ≡ n + 0 = omega arith in
+    ap (run_text n) e ∙ ap (λ o. run_text o k) none ∙ sym (append-nil (run_text (n + 0) k))
+first_run (b ∷ []) (suc m) n k h le along ends = absurd (omega arith)
+first_run (b ∷ c ∷ xs) zero n k h le along ends =
+    let e : block_kind b ≡ k = cc in
+    ap (λ t. cond t (runs_text (n + 1) (c ∷ xs)) (run_text n (block_kind b) ++ runs_text 1 (c ∷ xs))) (same_alike b c ∙ ends (omega arith) k) ∙ ap (λ x. run_text n x ++ runs_text 1 (c ∷ xs)) e
+    ∙ (let none : n ≡ n + 0 = omega arith in ap (λ o. run_text o k ++ runs_text 1 (c ∷ xs)) none)
+first_run (b ∷ c ∷ xs) (suc m) n k h le along ends =
+    let e : block_kind b ≡ k = cc in
+    let equal : block_kind b ≡ block_kind c = same_equal (block_kind b) (block_kind c) (along 0 k (omega arith)) in
+    let more : (n + 1) + m ≡ n + suc m = omega arith in
+    ap (λ t. cond t (runs_text (n + 1) (c ∷ xs)) (run_text n (block_kind b) ++ runs_text 1 (c ∷ xs))) (same_alike b c ∙ along 0 k (omega arith))
+    ∙ first_run (c ∷ xs) m (n + 1) k (ap Some (sym equal ∙ e)) (omega arith) (λ i d l. along (suc i) d (omega arith)) (λ l. ends (omega arith))
+    ∙ ap (λ o. run_text o k ++ runs_text 1 (drop (suc m) (c ∷ xs))) more
 
-ended : (xs : Reel) (i n : ℕ) → length xs ≤ i → runs_text n (drop i xs) ≡ []
-ended [] zero n h = refl
-ended [] (suc i) n h = refl
-ended (b ∷ xs) zero n h = absurd (omega arith)
-ended (b ∷ xs) (suc i) n h = ended xs i n (omega arith)
+-- The text has the runs before the kinds in `rest`.
+abbrev pub Going : List (Kind ℕ) → List (Kind ℕ) → List ℕ → Type 0
+Going kinds rest text = (xs : Reel) → kinds ≡ map block_kind xs → (ys : Reel) × (rest ≡ map block_kind ys) × (text ++ runs_text 1 ys ≡ runs_text 1 xs)
 
--- What a look at an index tells.
-pub looked : (kinds : List (Kind ℕ)) (n : ℕ) (r : Option (Bor (Kind ℕ))) → MatchOption r (length kinds ≤ n) (λ x. (n < length kinds) × HoldsAt {X = Kind ℕ} (λ y. x.now ≡ y) kinds n) → IfSome r (λ x. x.now ≡ get_or kinds n x.now) → option_copied r ≡ slice_get kinds n
-looked kinds n None m i = sym (slice_get_past kinds n m)
-looked kinds n (Some x) m i = sym (slice_get_read kinds (length kinds) n x.now refl m.0 i)
+run_taken : (ys : Reel) (n : ℕ) (k : Kind ℕ) (rest : List (Kind ℕ)) → rest ≡ map block_kind ys → 0 < n → n ≤ length rest → slice_get rest 0 ≡ Some k → IsChunkByPrefix same rest n → runs_text 1 ys ≡ run_text n k ++ runs_text 1 (drop n ys)
+run_taken ys zero k rest e some le first run = absurd (omega arith)
+run_taken ys (suc m) k rest e some le first run =
+    let long : length rest ≡ length ys = ap length e ∙ length-map ys block_kind in
+    first_run ys m 1 k (ap (λ r. slice_get r 0) (sym e) ∙ first) (omega (arith, long))
+    (λ i d l. let next : suc i ≡ i + 1 = omega arith in ap (λ r. same (get_or r i d) (get_or r (suc i) d)) (sym e) ∙ ap (λ j. same (get_or rest i d) (get_or rest j d)) next ∙ run.0 i d (omega arith))
+    (λ l d. let last : m ≡ suc m - 1 = omega arith in ap (λ r. same (get_or r m d) (get_or r (suc m) d)) (sym e) ∙ ap (λ j. same (get_or rest j d) (get_or rest (suc m) d)) last ∙ run.1 (omega (arith, long)) d)
+    ∙ (let one : 1 + m ≡ suc m = omega arith in ap (λ o. run_text o k ++ runs_text 1 (drop (suc m) ys)) one)
 
--- The text has the runs before that of the block at `index`, which is the `count`-th of its run.
-pub record Going (kinds : List (Kind ℕ)) (index count : ℕ) (text : List ℕ) : Type 0 where
-  pub few : count ≤ index + 1
-  pub so_far : (xs : Reel) → kinds ≡ map block_kind xs → text ++ runs_text count (drop index xs) ≡ runs_text 1 xs
+front : (run after : List (Kind ℕ)) (k : Kind ℕ) → slice_get run 0 ≡ Some k → slice_get (run ++ after) 0 ≡ Some k
+front [] after k e = cc
+front (x ∷ run) after k e = e
 
-pub going_start : (kinds : List (Kind ℕ)) (text : List ℕ) → text ≡ [] → Going kinds 0 1 text
-going_start kinds text e = record { few = omega arith; so_far = λ xs h. ap (λ t. t ++ runs_text 1 xs) e }
+pub going_next : (kinds rest run after : List (Kind ℕ)) (text more : List ℕ) (k : Kind ℕ) → Going kinds rest text → rest ≡ run ++ after → 0 < length run → IsChunkByPrefix same rest (length run) → slice_get run 0 ≡ Some k → more ≡ text ++ run_text (length run) k → Going kinds after more
+going_next kinds rest run after text more k g cut some prefix first m xs h =
+    let before = g xs h in
+    let short : length run ≤ length rest = omega (arith, ap length cut, length-append run after) in
+    let ys = before.0 in (
+      drop (length run) ys,
+      sym (drop_at run after (length run) refl) ∙ ap (drop (length run)) (sym cut ∙ before.1) ∙ drop-map block_kind (length run) ys,
+      ap (λ t. t ++ runs_text 1 (drop (length run) ys)) m
+          ∙ append_assoc text (run_text (length run) k) (runs_text 1 (drop (length run) ys))
+          ∙ ap (λ t. text ++ t) (sym (run_taken ys (length run) k rest before.1 some short (ap (λ r. slice_get r 0) cut ∙ front run after k first) prefix))
+          ∙ before.2,
+    )
 
-pub going_same : (kinds : List (Kind ℕ)) (i count more : ℕ) (text after : List ℕ) (k : Kind ℕ) → Going kinds i count text → slice_get kinds i ≡ Some k → slice_get kinds (i + 1) ≡ Some k → more ≡ count + 1 → after ≡ text → Going kinds (i + 1) more after
-going_same kinds i count more text after k g here next m a = record {
-  few = omega (arith, g.few, m);
-  so_far = λ xs h.
-      ap (λ n. after ++ runs_text more (drop n xs)) (add-one i)
-      ∙ ap (λ n. after ++ runs_text n (drop (suc i) xs)) m
-      ∙ ap (λ t. t ++ runs_text (count + 1) (drop (suc i) xs)) a
-      ∙ ap (λ t. text ++ t) (sym (same_run xs i count k (ap (λ ks. slice_get ks i) (sym h) ∙ here) (ap (λ ks. slice_get ks (suc i)) (sym h) ∙ ap (slice_get kinds) (sym (add-one i)) ∙ next)))
-      ∙ g.so_far xs h;
-}
-
-pub going_next : (kinds : List (Kind ℕ)) (i count one : ℕ) (text after : List ℕ) (k : Kind ℕ) → Going kinds i count text → slice_get kinds i ≡ Some k → (slice_get kinds (i + 1) ≡ Some k → ⊥) → one ≡ 1 → after ≡ text ++ run_text count k → Going kinds (i + 1) one after
-going_next kinds i count one text after k g here other o a = record {
-  few = omega (arith, o);
-  so_far = λ xs h.
-      let rest = runs_text 1 (drop (suc i) xs) in
-      let ends : runs_text count (drop i xs) ≡ run_text count k ++ rest =
-      run_ends xs i count k (ap (λ ks. slice_get ks i) (sym h) ∙ here) (λ e. other (ap (slice_get kinds) (add-one i) ∙ ap (λ ks. slice_get ks (suc i)) h ∙ e)) in
-      ap (λ n. after ++ runs_text one (drop n xs)) (add-one i)
-      ∙ ap (λ n. after ++ runs_text n (drop (suc i) xs)) o
-      ∙ ap (λ t. t ++ rest) a
-      ∙ append_assoc text (run_text count k) rest
-      ∙ ap (λ t. text ++ t) (sym ends)
-      ∙ g.so_far xs h;
-}
-
-pub going_done : (kinds : List (Kind ℕ)) (i count : ℕ) (text : List ℕ) → Going kinds i count text → length kinds ≤ i → (xs : Reel) → kinds ≡ map block_kind xs → text ≡ runs_text 1 xs
-going_done kinds i count text g le xs h =
-    sym (append-nil text) ∙ ap (λ t. text ++ t) (sym (ended xs i count (omega (arith, ap length h, length-map xs block_kind)))) ∙ g.so_far xs h
+-- The closure of `chunk_by` computes after some parts what it computed before them.
+pub still_computes : {A F : Type 0} (g : Mut F (Bor A × (Bor A × Unit {0})) Bool) (e : A → A → Bool) (parts : List (Bor (List A))) (s u : ChunkBy A F) → ComputesOnPairs g e (chunk_by_callee s) → Yields (chunk_by_steps g) s parts u → ComputesOnPairs g e (chunk_by_callee u)
+still_computes g e [] s u by y = subst (λ v. ComputesOnPairs g e (chunk_by_callee v)) y by
+still_computes g e (x ∷ parts) s u by y = still_computes g e parts y.0 u (y.1.2 e by).0 y.2

@@ -45,20 +45,15 @@ fn kinds<D: Deck>(heap: Global, deck: &mut D, reel: u32) -> Result<Vec<Kind<usiz
     Ok(kinds)
 }
 
-// The lines of the runs of blocks of these kinds. The loop counts a run: `chunk_by` would give slices,
-// and the kind of each by `first`, with a case for an empty one, which there is not.
+// The lines of the runs of blocks of these kinds. No run is empty, so each has a first kind.
 fn runs(heap: Global, kinds: &[Kind<usize>]) -> Result<String, AllocError>
     ensures { (reel : Reel) → kinds.now ≡ map block_kind reel → IfOk result (λ t. string_bytes t ≡ runs_text 1 reel) }
 {
     let mut text = String::new(heap);
-    let mut count = 1;
-    for (index, kind) in kinds.iter().enumerate() {
-        if kinds.get(index + 1).copied() == Some(*kind) {
-            count += 1;
-        } else {
-            let line = run_line(heap, count, *kind)?;
+    for run in kinds.chunk_by(|one, next| one == next) {
+        if let Some(kind) = run.first() {
+            let line = run_line(heap, run.len(), *kind)?;
             text.push_str(line.as_str())?;
-            count = 1;
         }
     }
     Ok(text)

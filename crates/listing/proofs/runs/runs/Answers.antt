@@ -1,25 +1,17 @@
-use Rattle.std.proofs.Common.{◌≡◌, ◌+◌, string_bytes, get_or, Some, sym, refl, ap, ◌∙◌, ◌++◌, rules}
-use Rattle.std.proofs.lemmas.Option.{slice_get-get_or}
+use Rattle.std.proofs.Common.{◌≡◌, ◌++◌, string_bytes, Some, refl, ap, ◌∙◌, rules}
+use Rattle.std.specs.List.{slice_get}
+use Rattle.std.proofs.lemmas.Fn.{always_returns_same}
 use Rattle.std.proofs.lemmas.Slice.{pushed}
-use Rattle.deck.specs.declared.Kind.TheVariants.{Record}
-use Rattle.listing.proofs.Going.{looked, going_same, going_next}
+use Rattle.listing.proofs.Going.{same, going_next, still_computes}
 use Rattle.listing.proofs.runs.runs.Goals as goal
-use Rattle.listing.proofs.runs.runs.Goals.{then-eq, else-eq+in_ok-line+in_ok-push_str}
 
-pub loop-index-preserved : goal.loop-index-preserved
-loop-index-preserved c =
-    let kinds = c.args.kinds.now in
-    let i = c.loop-index.index in
-    let kind = get_or kinds i (Record 0) in
-    let here = slice_get-get_or kinds i (Record 0) c.loop-index-test.true in
-    let next = sym (looked kinds (i + 1) c.get.result c.get.ensures.lookup.3 c.get.ensures.lookup.1) ∙ sym c.copied.ensures in
-    elim c.if-eq.branch [
-      | then-eq w ↦
-          let same : c.copied.result ≡ Some kind = search rules in
-          going_same kinds i c.loop-index.count c.if-eq.count (string_bytes c.loop-index.text) (string_bytes c.if-eq.text) kind c.loop-index.invariant here (next ∙ same) w.count-is (ap string_bytes w.text-is)
-      | else-eq+in_ok-line+in_ok-push_str w ↦
-          let other : (c.copied.result ≡ Some kind) → ⊥ = search rules in
-          let line = w.as_str.ensures.value ∙ w.in_ok-line.ensures in
-          let text = pushed w.as_str.result.now refl w.in_ok-push_str.was w.push_str.ensures.bytes ∙ ap (λ t. string_bytes c.loop-index.text ++ t) line in
-          going_next kinds i c.loop-index.count c.if-eq.count (string_bytes c.loop-index.text) (string_bytes c.if-eq.text) kind c.loop-index.invariant here (λ e. other (sym next ∙ e)) w.count-is (ap string_bytes w.text-is ∙ text)
-    ]
+pub loop-run-preserved-in-Some-first : goal.loop-run-preserved-in-Some-first
+loop-run-preserved-in-Some-first c =
+    let steps = c.in-Some.ensures.steps in
+    let run = c.in-Some.run'.now in
+    let kind = c.in-Some-first.kind.now in
+    let still = still_computes _ same c.loop-run.yielded c.into_iter-run-iterator.result c.loop-run.run-iterator (always_returns_same _ _ _ (λ a r f h. (search rules, refl))) c.loop-run.yielded_by in
+    let first : slice_get run 0 ≡ Some kind = search rules in
+    let line = c.as_str.ensures.value ∙ c.in_ok-line.ensures in
+    let text = pushed c.as_str.result.now refl c.in_ok-push_str.was c.push_str.ensures.bytes ∙ ap (λ t. string_bytes c.loop-run.text ++ t) line in
+    going_next c.args.kinds.now c.loop-run.run-iterator.rest.now run c.next.new.self.rest.now (string_bytes c.loop-run.text) (string_bytes c.push_str.new.self) kind c.loop-run.invariant steps.0 steps.1 (steps.2 same still).1 first text

@@ -2,5 +2,5 @@ use Rattle.std.proofs.Common.{string_bytes}
 use Rattle.listing.proofs.Going.{Going}
 use Rattle.listing.proofs.runs.runs.Given as goal
 
-abbrev pub invariant-loop-index : goal.invariant-loop-index
-invariant-loop-index l = Going l.kinds l.index l.count (string_bytes l.text)
+abbrev pub invariant-loop-run : goal.invariant-loop-run
+invariant-loop-run l = Going l.kinds l.run-iterator.rest.now (string_bytes l.text)
