@@ -68,7 +68,6 @@ clause_uses = defaultdict(set)
 together = defaultdict(set)
 
 for path, text in texts.items():
-    testing = "_tests/" in path
     # 1: variants and types
     for m in re.finditer(r"^(?:pub )?enum (\w+)[^{]*\{(.*?)^\}", text, re.M | re.S):
         variants = re.findall(r"^\s+(\w+)(\([^)]*\))?,", m.group(2), re.M)
@@ -92,8 +91,6 @@ for path, text in texts.items():
             note(3, path, n, row.strip())
         elif re.search(r"for \w+ in \w[\w.]*\.\.[\w.]", row):
             note(3, path, n, row.strip())
-        elif re.match(r"\s*(for \(?\w+)", row):
-            pass
     for name, line, params, signature, clauses, body in functions(text):
         public = re.match(r"\s*pub (?:extern \"C\" )?fn", signature)
         numbers = re.findall(r"\b(kind|form|what|mission|turners|code|band): u\d+", params)
