@@ -4,11 +4,10 @@ use Rattle.std.proofs.lemmas.List.{map-append}
 use Rattle.deck.specs.Tape.{Block, written, mark, Reel, TapeSet}
 use Rattle.survey.specs.Recordings.{Body, Line, Files, Recording, record_of, numbered, line_block, lines_from, before, attributes_file, part, image_file, trailer_file, closes, stretches, directory_on, bound, written_as}
 use Rattle.turner.specs.Pieces.{series, attribute_pieces, image_pieces, trailer_pieces, group_pieces, groups_from}
-use Rattle.turner.specs.Shapes.{groups, images, sheets, trailers}
+use Rattle.turner.specs.Shapes.{Plan, groups, images, sheets, trailers}
 use Rattle.turner.specs.Shown.{piece_block, shown}
 use Rattle.turner.specs.declared.piece.Piece.{Piece}
 use Rattle.turner.specs.declared.piece.Piece.TheVariants.{Mark, Directory, Header, Attribute, Image, Trailer}
-use Rattle.turner.specs.declared.shape.Turning.{Turning}
 
 -- Series.
 map-series : {X Y : Type 0} (f : X → Y) (g : ℕ → X) (n many : ℕ) → map f (series g n many) ≡ series (λ k. f (g k)) n many
@@ -43,7 +42,7 @@ regroup : (a b c d : Reel) → a ++ (b ++ (c ++ d)) ≡ (a ++ (b ++ c)) ++ d
 regroup a b c d = simp append_assoc
 
 -- What each piece of a group shows.
-pub record GroupShown (t : Turning) (set : TapeSet) (i : ℕ) (g : Files) (line : Line) (lines : List Line) : Type 0 where
+pub record GroupShown (t : Plan) (set : TapeSet) (i : ℕ) (g : Files) (line : Line) (lines : List Line) : Type 0 where
   pub one-part : g.parts ≡ (line ∷ lines) ∷ []
   pub no_end : g.ends ≡ false
   pub header : piece_block t set (Header i) ≡ written (record_of 1 18 g.header)
@@ -55,7 +54,7 @@ pub record GroupShown (t : Turning) (set : TapeSet) (i : ℕ) (g : Files) (line 
   pub trailers_many : trailers t ≡ length g.trailers
   pub trailer_bodies : (k : ℕ) → k < length g.trailers → piece_block t set (Trailer (1 + k)) ≡ written (record_of (1 + k) 246 (get_or g.trailers k []))
 
-module _ (t : Turning) (set : TapeSet) (i : ℕ) (g : Files) (line : Line) (lines : List Line) (s : GroupShown t set i g line lines) where
+module _ (t : Plan) (set : TapeSet) (i : ℕ) (g : Files) (line : Line) (lines : List Line) (s : GroupShown t set i g line lines) where
   abbrev show : Piece → Block
   show = piece_block t set
 
@@ -104,16 +103,16 @@ module _ (t : Turning) (set : TapeSet) (i : ℕ) (g : Files) (line : Line) (line
       ∙ ap (λ r. r ∷ []) (regroup (attributes_file g) (part 1 (line ∷ lines)) (trailer_file g) reel)
 
 -- All groups.
-pub record EachShown (t : Turning) (set : TapeSet) (i : ℕ) (g : Files) : Type 0 where
+pub record EachShown (t : Plan) (set : TapeSet) (i : ℕ) (g : Files) : Type 0 where
   pub line : Line
   pub lines : List Line
   pub shows : GroupShown t set i g line lines
 
-abbrev pub AllShown : Turning → TapeSet → ℕ → List Files → Type 0
+abbrev pub AllShown : Plan → TapeSet → ℕ → List Files → Type 0
 AllShown t set i [] = Unit {0}
 AllShown t set i (g ∷ gs) = EachShown t set i g × AllShown t set (i + 1) gs
 
-all_written : (t : Turning) (set : TapeSet) (i : ℕ) (gs : List Files) → AllShown t set i gs → stretches gs ≡ map (piece_block t set) (groups_from t i (length gs)) ∷ []
+all_written : (t : Plan) (set : TapeSet) (i : ℕ) (gs : List Files) → AllShown t set i gs → stretches gs ≡ map (piece_block t set) (groups_from t i (length gs)) ∷ []
 all_written t set i [] s = refl
 all_written t set i (g ∷ gs) s =
     let e = s.0 in
@@ -127,7 +126,7 @@ written_one : (r : Recording) (reel : Reel) → stretches r.groups ≡ reel ∷ 
 written_one r reel e = ap (λ ss. bound r.directory (length ss) 1 ss) e
 
 -- A set is shown as a recording is written.
-pub shown_as_written : (t : Turning) (set : TapeSet) (r : Recording) → piece_block t set Directory ≡ written (directory_on r.directory 1) → groups t ≡ length r.groups → AllShown t set 0 r.groups → shown (Some t) set ≡ written_as r
+pub shown_as_written : (t : Plan) (set : TapeSet) (r : Recording) → piece_block t set Directory ≡ written (directory_on r.directory 1) → groups t ≡ length r.groups → AllShown t set 0 r.groups → shown (Some t) set ≡ written_as r
 shown_as_written t set r d many s =
     let one = all_written t set 0 r.groups s in
     let show = piece_block t set in

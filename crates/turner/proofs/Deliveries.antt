@@ -13,12 +13,11 @@ use Rattle.machine.specs.Findings.{place_of}
 use Rattle.reader.specs.Bodies.{Delivery, body_of, body_at}
 use Rattle.reader.specs.declared.places.Spot.{Spot}
 use Rattle.survey.specs.Recordings.{Body, Line, record_of}
-use Rattle.turner.specs.Shown.{bears, readable, borne_at, borne, found, body_from, record_block, source_block}
+use Rattle.turner.specs.Shown.{Recipe, bears, readable, borne_at, borne, found, body_from, record_block, source_block}
 use Rattle.turner.specs.declared.delivery.Found.{Found}
 use Rattle.turner.specs.declared.delivery.Found.TheVariants.{Blank, Borne as Lent}
 use Rattle.turner.specs.declared.source.Origin.{Origin}
 use Rattle.turner.specs.declared.source.Origin.TheVariants.{Zero, Below, Nowhere}
-use Rattle.turner.specs.declared.source.Source.{Source}
 
 -- A place that bears no record of the length.
 pub not_borne : (set : TapeSet) (size : ℕ) (s : Spot) → body_at set (Some s) size ≡ Err 46 → borne_at set size s ≡ None
@@ -51,13 +50,13 @@ found_from set size Zero = refl
 found_from set size (Below s) = found_below set size s (body_at set (Some s) size) refl
 found_from set size Nowhere = refl
 
-pub source_found : (set : TapeSet) (source : Option Source) (s : Source) (f : Option Found) → source ≡ Some s → found set s.size s.origin ≡ f → record_block (λ body. body) s.kind s.number (body_found set s.size f) ≡ source_block (λ body. body) set source
+pub source_found : (set : TapeSet) (source : Option Recipe) (s : Recipe) (f : Option Found) → source ≡ Some s → found set s.size s.origin ≡ f → record_block (λ body. body) s.kind s.number (body_found set s.size f) ≡ source_block (λ body. body) set source
 source_found set source s f is e =
     sym (ap (record_block (λ body. body) s.kind s.number) (found_from set s.size s.origin ∙ ap (body_found set s.size) e))
     ∙ sym (ap (source_block (λ body. body) set) is)
 
 -- A source whose record a buffer has taken.
-pub record Taken (set : TapeSet) (source : Option Source) (buffer : List ℕ) (size : ℕ) : Type 0 where
+pub record Taken (set : TapeSet) (source : Option Recipe) (buffer : List ℕ) (size : ℕ) : Type 0 where
   pub kind : ℕ
   pub number : ℕ
   pub body : Body
@@ -73,7 +72,7 @@ whole_if : (rec buffer : List ℕ) (size : ℕ) (b : Bool) → ltb (length buffe
 whole_if rec buffer size true e h = cc
 whole_if rec buffer size false e h = let long : length rec ≡ size = cc in record { long = long; room = omega (arith, ltb-false (length buffer) (length rec) e, long) }
 
-taken_line : (set : TapeSet) (s : Source) (buffer : List ℕ) (size : ℕ) (line : Line) → body_from set s.size s.origin ≡ line → fetched (Some (record_block (λ body. body) s.kind s.number line)) (length buffer) ≡ Ok (Some (Record size)) → Taken set (Some s) buffer size
+taken_line : (set : TapeSet) (s : Recipe) (buffer : List ℕ) (size : ℕ) (line : Line) → body_from set s.size s.origin ≡ line → fetched (Some (record_block (λ body. body) s.kind s.number line)) (length buffer) ≡ Ok (Some (Record size)) → Taken set (Some s) buffer size
 taken_line set s buffer size None e h = cc
 taken_line set s buffer size (Some body) e h =
     let w = whole_if (record_of s.number s.kind body) buffer size (ltb (length buffer) (length (record_of s.number s.kind body))) refl h in
@@ -86,12 +85,12 @@ taken_line set s buffer size (Some body) e h =
       room = w.room;
     }
 
-pub taken : (set : TapeSet) (source : Option Source) (buffer : List ℕ) (size : ℕ) → fetched (Some (source_block (λ body. body) set source)) (length buffer) ≡ Ok (Some (Record size)) → Taken set source buffer size
+pub taken : (set : TapeSet) (source : Option Recipe) (buffer : List ℕ) (size : ℕ) → fetched (Some (source_block (λ body. body) set source)) (length buffer) ≡ Ok (Some (Record size)) → Taken set source buffer size
 taken set None buffer size h = cc
 taken set (Some s) buffer size h = taken_line set s buffer size (body_from set s.size s.origin) refl h
 
 -- Its body is changed behind the six bytes.
-module _ (f : Body → Body) (keeps : (body : Body) → length (f body) ≡ length body) (set : TapeSet) (source : Option Source) (buffer : List ℕ) (size : ℕ) (t : Taken set source buffer size) where
+module _ (f : Body → Body) (keeps : (body : Body) → length (f body) ≡ length body) (set : TapeSet) (source : Option Recipe) (buffer : List ℕ) (size : ℕ) (t : Taken set source buffer size) where
   new_long : length (record_of t.number t.kind (f t.body)) ≡ size
   new_long = omega (arith, keeps t.body, t.long)
 

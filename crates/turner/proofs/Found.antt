@@ -28,14 +28,12 @@ use Rattle.reader.proofs.Proper.{From, from_less, own_place, Places, places_rise
 use Rattle.reader.proofs.Shelves.{header_row, ancillary_row, annotation-row, trailer_row, whole_at}
 use Rattle.reader.proofs.Showing.{file_of, file_with, found_line, file_is}
 use Rattle.turner.specs.Bounds.{first_group, small}
-use Rattle.turner.specs.Shapes.{other_order, size, in_order, turning_of}
+use Rattle.turner.specs.Shapes.{Plan, other_order, size, in_order, turning_of}
 use Rattle.turner.specs.Shown.{origin_at, line_origin, readable, body_from, shown}
 use Rattle.turner.specs.Turns.{row_of, line_in, turn}
 use Rattle.turner.specs.declared.shape.Order.{Order}
 use Rattle.turner.specs.declared.shape.Order.TheVariants.{ByLine, ByBand}
-use Rattle.turner.specs.declared.shape.Turning.{Turning}
-use Rattle.turner.proofs.Bounded.{turning, kept}
-use Rattle.turner.proofs.Turned.{SheetsFound, line-shown, shown_by-line, by_band, RowFound, RowsFound, shown_by_band}
+use Rattle.turner.proofs.Turned.{SheetsFound, line-shown, by_line, shown_by-line, by_band, RowFound, RowsFound, shown_by_band}
 use Rattle.turner.proofs.Masks.{Upto}
 use Rattle.turner.proofs.Preserved.{from_four, upto}
 use Rattle.turner.proofs.Woven.{row_found, row_long as row-long-at}
@@ -84,9 +82,9 @@ module _ (a : Accepted) (set : TapeSet) (ob : Obeys a set) where
   size_is : record_length a.summary.layout.form ≡ record_length l.form
   size_is = ap (λ (k : Layout). record_length k.form) ob.layout
 
-  module _ (few : small a ≡ true) (o : Order) where
-    abbrev t : Turning
-    t = turning a few o
+  module _ (o : Order) where
+    abbrev t : Plan
+    t = record { accepted = a; order = o }
 
     by_file : (code n : ℕ) (i : Option ℕ) → index_of code cs 0 ≡ i → n < r.lines → body_from set (record_length l.form) (line_origin t (file_with l.form l a.places.table code i) (n + 1)) ≡ line_in (body_length l) n (row_of code cs rows)
     by_file code n None e h = sym (ap (line_in (body_length l) n) (no_row code 0 cs rows e))
@@ -150,7 +148,7 @@ module _ (a : Accepted) (set : TapeSet) (ob : Obeys a set) where
           }
 
 -- Every band's row.
-module _ (a : Accepted) (few : small a ≡ true) (set : TapeSet) (ob : Obeys a set) (small-codes : (i : ℕ) → i < length (all_codes ob.recording.layout ob.recording.groups) → get_or (all_codes ob.recording.layout ob.recording.groups) i 0 < 208) where
+module _ (a : Accepted) (set : TapeSet) (ob : Obeys a set) (small-codes : (i : ℕ) → i < length (all_codes ob.recording.layout ob.recording.groups) → get_or (all_codes ob.recording.layout ob.recording.groups) i 0 < 208) where
   abbrev layout : Layout
   layout = ob.recording.layout
 
@@ -160,7 +158,7 @@ module _ (a : Accepted) (few : small a ≡ true) (set : TapeSet) (ob : Obeys a s
   abbrev every-row : List (List Line)
   every-row = all_rows layout ob.recording.lines ob.recording.groups
 
-  row_here : (i : ℕ) → i < length all → RowFound (by_band a few) set ob.recording.lines i (get_or all i 0) (get_or every-row i [])
+  row_here : (i : ℕ) → i < length all → RowFound (by_band a) set ob.recording.lines i (get_or all i 0) (get_or every-row i [])
   row_here i h =
       let p = proper ob.recording ob.valid in
       let many = p.rows_many in
@@ -171,10 +169,10 @@ module _ (a : Accepted) (few : small a ≡ true) (set : TapeSet) (ob : Obeys a s
         code_is = ap (λ k. get_or k i 0) ob.codes;
         code_small = small-codes i h;
         row_long = row-long-at (body_size (sensor_in layout.form)) ob.recording.lines i every-row p.rows_whole (omega (arith, many, h));
-        row_lines = λ k w. let e : 1 + k ≡ k + 1 = omega arith in ap (line-shown (by_band a few) set (get_or all i 0)) e ∙ line_found a set ob few ByBand (get_or all i 0) k w ∙ ap (line_in (body_length layout) k) row;
+        row_lines = λ k w. let e : 1 + k ≡ k + 1 = omega arith in ap (line-shown (by_band a) set (get_or all i 0)) e ∙ line_found a set ob ByBand (get_or all i 0) k w ∙ ap (line_in (body_length layout) k) row;
       }
 
-  rows_from : (i : ℕ) (cs : List ℕ) (rs : List (List Line)) → length rs ≡ length cs → i + length cs ≡ length all → ((j : ℕ) → j < length cs → (get_or all (i + j) 0 ≡ get_or cs j 0) × (get_or every-row (i + j) [] ≡ get_or rs j [])) → RowsFound (by_band a few) set ob.recording.lines i cs rs
+  rows_from : (i : ℕ) (cs : List ℕ) (rs : List (List Line)) → length rs ≡ length cs → i + length cs ≡ length all → ((j : ℕ) → j < length cs → (get_or all (i + j) 0 ≡ get_or cs j 0) × (get_or every-row (i + j) [] ≡ get_or rs j [])) → RowsFound (by_band a) set ob.recording.lines i cs rs
   rows_from i [] [] e l h = tt
   rows_from i [] (r ∷ rs) e l h = absurd (omega (arith, e))
   rows_from i (c ∷ cs) [] e l h = absurd (omega (arith, e))
@@ -183,11 +181,11 @@ module _ (a : Accepted) (few : small a ≡ true) (set : TapeSet) (ob : Obeys a s
       let k = h 0 (omega arith) in
       let code : get_or all i 0 ≡ c = ap (λ x. get_or all x 0) (sym z) ∙ k.0 in
       let row : get_or every-row i [] ≡ r = ap (λ x. get_or every-row x []) (sym z) ∙ k.1 in (
-        subst (λ x. RowFound (by_band a few) set ob.recording.lines i x r) code (subst (λ x. RowFound (by_band a few) set ob.recording.lines i (get_or all i 0) x) row (row_here i (omega (arith, l)))),
+        subst (λ x. RowFound (by_band a) set ob.recording.lines i x r) code (subst (λ x. RowFound (by_band a) set ob.recording.lines i (get_or all i 0) x) row (row_here i (omega (arith, l)))),
         rows_from (i + 1) cs rs (omega (arith, e)) (omega (arith, l)) (λ j w. let s : i + suc j ≡ i + 1 + j = omega arith in let m = h (suc j) (omega (arith, w)) in (ap (λ x. get_or all x 0) (sym s) ∙ m.0, ap (λ x. get_or every-row x []) (sym s) ∙ m.1)),
       )
 
-  all_rows_found : RowsFound (by_band a few) set ob.recording.lines 0 all every-row
+  all_rows_found : RowsFound (by_band a) set ob.recording.lines 0 all every-row
   all_rows_found =
       let many = (proper ob.recording ob.valid).rows_many in
       rows_from 0 all every-row many (omega arith) (λ j w. let z : 0 + j ≡ j = omega arith in (ap (λ x. get_or all x 0) z, ap (λ x. get_or every-row x []) z))
@@ -265,8 +263,8 @@ module _ (a : Accepted) (set : TapeSet) (ob : Obeys a set) (mss : ob.recording.l
       groups_so (g ∷ gs) first v =
           ap (λ k. shown (in_order a (other_order k.form)) set) ob.layout
           ∙ ap (λ k. shown (in_order a (other_order k)) set) e
-          ∙ ap (λ o. shown o set) (kept a tiny ByLine (small a) refl)
-          ∙ shown_by-line a tiny set rec g gs (sheets_found a set ob tiny ByLine g gs first) ob.valid.lines_some (λ code n h. line_found a set ob tiny ByLine code n h) e first
+          ∙ ap (λ k. shown (cond k (Some (by_line a)) None) set) tiny
+          ∙ shown_by-line a set rec g gs (sheets_found a set ob ByLine g gs first) ob.valid.lines_some (λ code n h. line_found a set ob ByLine code n h) e first
   by_order Interleaved e = groups_so rec.groups refl ob.valid.groups_valid
     where
       groups_so : (gs : List Files) → rec.groups ≡ gs → ValidGroups lay rec.lines 0 gs → shown (turning_of a) set ≡ written_as (turn rec)
@@ -274,8 +272,8 @@ module _ (a : Accepted) (set : TapeSet) (ob : Obeys a set) (mss : ob.recording.l
       groups_so (g ∷ gs) first v =
           ap (λ k. shown (in_order a (other_order k.form)) set) ob.layout
           ∙ ap (λ k. shown (in_order a (other_order k)) set) e
-          ∙ ap (λ o. shown o set) (kept a tiny ByBand (small a) refl)
-          ∙ shown_by_band a tiny set rec g gs (sheets_found a set ob tiny ByBand g gs first) ob.valid.lines_some e first (all_rows_found a tiny set ob (λ i h. let s = seen in let w = upto_at 8 i (all_codes lay rec.groups) s.upto h in omega (arith, w)))
+          ∙ ap (λ k. shown (cond k (Some (by_band a)) None) set) tiny
+          ∙ shown_by_band a set rec g gs (sheets_found a set ob ByBand g gs first) ob.valid.lines_some e first (all_rows_found a set ob (λ i h. let s = seen in let w = upto_at 8 i (all_codes lay rec.groups) s.upto h in omega (arith, w)))
 
   pub shown-turned : shown (turning_of a) set ≡ written_as (turn rec)
   shown-turned = by_order lay.form refl

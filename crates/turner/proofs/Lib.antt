@@ -1,4 +1,3 @@
-pub mod Bounded
 pub mod Assembling
 pub mod Deliveries
 pub mod Separating

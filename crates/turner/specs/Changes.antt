@@ -6,11 +6,11 @@ use Rattle.records.specs.Layouts.{stride}
 use Rattle.machine.specs.declared.accepted.Accepted.{Accepted}
 use Rattle.survey.specs.Recordings.{Body}
 use Rattle.reader.specs.Finding.{codes}
+use Rattle.turner.specs.Shapes.{Plan}
 use Rattle.turner.specs.declared.piece.Piece.{Piece}
 use Rattle.turner.specs.declared.piece.Piece.TheVariants.{Mark, Directory, Header, Attribute, Image, Trailer}
 use Rattle.turner.specs.declared.shape.Order.{Order}
 use Rattle.turner.specs.declared.shape.Order.TheVariants.{ByLine, ByBand}
-use Rattle.turner.specs.declared.shape.Turning.{Turning}
 
 -- A body with another value in a byte.
 abbrev pub put : Body → ℕ → ℕ → Body
@@ -50,7 +50,7 @@ header_changed ByLine a i body = header_by_line (stride a.summary.layout) (mask_
 header_changed ByBand a i body = header_by_band (digit (code_at a i)) body
 
 -- What is changed in the body of each piece.
-abbrev pub changed : Turning → Piece → Body → Body
+abbrev pub changed : Plan → Piece → Body → Body
 changed t Mark body = body
 changed t Directory body = directory_changed t.order body
 changed t (Header i) body = header_changed t.order t.accepted i body

@@ -8,10 +8,9 @@ use Rattle.std.proofs.lemmas.Bool.Decides.{nat_tests}
 use Rattle.deck.specs.Tape.{nth, from_one}
 use Rattle.deck.proofs.Looks.{nth_past}
 use Rattle.turner.specs.Pieces.{series, group_pieces, groups_from, pieces, piece_in, group_length, piece_behind, piece_at}
-use Rattle.turner.specs.Shapes.{groups, images, sheets, trailers}
+use Rattle.turner.specs.Shapes.{Plan, groups, images, sheets, trailers}
 use Rattle.turner.specs.declared.piece.Piece.{Piece}
 use Rattle.turner.specs.declared.piece.Piece.TheVariants.{Mark, Header, Attribute, Image, Trailer}
-use Rattle.turner.specs.declared.shape.Turning.{Turning}
 
 -- Of two lists, one behind the other.
 pub nth_left : {X : Type 0} (xs ys : List X) (i : ℕ) → i < length xs → nth (xs ++ ys) i ≡ nth xs i
@@ -147,13 +146,13 @@ closing p many h =
     (λ (n : p ≡ many → ⊥). nth_past (Mark ∷ []) (p - many) (omega arith) ∙ sym (cond-false (p == many) (Some Mark) None (ne_eqb p many n)))
     (cases_eq p many)
 
-far : (t : Turning) (p : ℕ) → piece_at t (suc (suc (suc p))) ≡ piece_behind t (suc (suc (suc p)) - 3)
+far : (t : Plan) (p : ℕ) → piece_at t (suc (suc (suc p))) ≡ piece_behind t (suc (suc (suc p)) - 3)
 far t p = grind (arith, nat_tests)
 
-sheets_some : (t : Turning) → 1 ≤ sheets t
+sheets_some : (t : Plan) → 1 ≤ sheets t
 sheets_some t = omega arith
 
-pub length_groups : (t : Turning) (i many : ℕ) → length (groups_from t i many) ≡ many * group_length t
+pub length_groups : (t : Plan) (i many : ℕ) → length (groups_from t i many) ≡ many * group_length t
 length_groups t i zero = omega arith
 length_groups t i (suc many) =
     length-append (group_pieces t i) (groups_from t (i + 1) many)
@@ -161,7 +160,7 @@ length_groups t i (suc many) =
     ∙ ap (λ k. group_length t + k) (length_groups t (i + 1) many)
     ∙ sym (suc_times many (group_length t))
 
-pub in_groups : (t : Turning) (i many p : ℕ) → p < many * group_length t → nth (groups_from t i many) p ≡ Some (piece_in t (i + p / group_length t) (p % group_length t))
+pub in_groups : (t : Plan) (i many p : ℕ) → p < many * group_length t → nth (groups_from t i many) p ≡ Some (piece_in t (i + p / group_length t) (p % group_length t))
 in_groups t i zero p h = absurd (omega arith)
 in_groups t i (suc many) p h =
     let len = group_length t in
@@ -184,7 +183,7 @@ in_groups t i (suc many) p h =
     (cases_lt p len)
 
 -- Behind the directory's mark.
-behind : (t : Turning) (p : ℕ) → nth (groups_from t 0 (groups t) ++ Mark ∷ []) p ≡ piece_behind t p
+behind : (t : Plan) (p : ℕ) → nth (groups_from t 0 (groups t) ++ Mark ∷ []) p ≡ piece_behind t p
 behind t p =
     let len = group_length t in
     let all = groups_from t 0 (groups t) in
@@ -205,7 +204,7 @@ behind t p =
     ∙ sym (cond-false (nat_lt (p / len) (groups t)) here after (le-ltb (p / len) (groups t) (le-div (groups t) p len positive h))))
     (cases_lt p (groups t * len))
 
-pub at_block : (t : Turning) (block : ℕ) → from_one (pieces t) block ≡ piece_at t block
+pub at_block : (t : Plan) (block : ℕ) → from_one (pieces t) block ≡ piece_at t block
 at_block t zero = refl
 at_block t (suc zero) = refl
 at_block t (suc (suc zero)) = refl

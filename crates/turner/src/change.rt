@@ -1,6 +1,7 @@
 // What is written into a directory and a header to tell the order that is shown.
 ghost use Rattle.std.specs.Prelude.{◌≡◌, ◌≤◌, length};
 ghost use Rattle.turner.specs.Changes.{put, order_byte, directory_changed, header_by_line, header_by_band, header_changed, mask_of, changed};
+ghost use Rattle.turner.specs.Shapes.{plan};
 
 use super::piece::Piece;
 use super::shape::{Order, Turning};
@@ -85,7 +86,7 @@ impl Turning {
 
     // Changes the body of a piece.
     pub(crate) fn change(&self, piece: Piece, body: &mut [u8])
-        ensures { body.new ≡ changed self.now piece body.old }
+        ensures { body.new ≡ changed (plan self.now) piece body.old }
     {
         match piece {
             Piece::Directory => change_directory(self.order, body),

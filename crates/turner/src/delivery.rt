@@ -4,7 +4,8 @@ ghost use Rattle.deck.specs.Answers.{fetched, filled};
 ghost use Rattle.deck.specs.Tape.{look};
 ghost use Rattle.deck.specs.Words.{word};
 ghost use Rattle.reader.specs.Bodies.{body_of};
-ghost use Rattle.turner.specs.Shown.{bears, readable, borne_at, found, record_block, source_block, piece_block, shown_kind, there};
+ghost use Rattle.turner.specs.Shapes.{plan};
+ghost use Rattle.turner.specs.Shown.{bears, readable, borne_at, found, recipe, record_block, source_block, piece_block, shown_kind, there};
 
 use super::piece::Piece;
 use super::shape::Turning;
@@ -54,7 +55,7 @@ fn find<D: Deck>(deck: &mut D, origin: Origin, size: usize) -> Option<Found>
 // What kind of block a source gives: one that the tape below does not bear is bad.
 pub(crate) fn kind_from<D: Deck>(deck: &mut D, source: Option<Source>) -> Kind<usize>
     ensures stays { D.meaning deck.new ≡ D.meaning deck.old }
-    ensures value { result ≡ shown_kind (D.meaning deck.old) source }
+    ensures value { result ≡ shown_kind (D.meaning deck.old) (recipe source) }
 {
     let Some(source) = source else {
         return Kind::Mark;
@@ -126,8 +127,8 @@ fn fetch_from<D: Deck>(
     buffer: &mut [u8],
 ) -> Result<Kind<usize>, Short>
     ensures stays { D.meaning deck.new ≡ D.meaning deck.old }
-    ensures value { there result ≡ fetched (Some (source_block (λ body. body) (D.meaning deck.old) source)) (length buffer.old) }
-    ensures bytes { buffer.new ≡ filled (Some (source_block (λ body. body) (D.meaning deck.old) source)) buffer.old }
+    ensures value { there result ≡ fetched (Some (source_block (λ body. body) (D.meaning deck.old) (recipe source))) (length buffer.old) }
+    ensures bytes { buffer.new ≡ filled (Some (source_block (λ body. body) (D.meaning deck.old) (recipe source))) buffer.old }
 {
     let Some(source) = source else {
         return Ok(Kind::Mark);
@@ -148,8 +149,8 @@ impl Turning {
         buffer: &mut [u8],
     ) -> Result<Kind<usize>, Short>
         ensures stays { D.meaning deck.new ≡ D.meaning deck.old }
-        ensures value { there result ≡ fetched (Some (piece_block self.now (D.meaning deck.old) piece)) (length buffer.old) }
-        ensures bytes { buffer.new ≡ filled (Some (piece_block self.now (D.meaning deck.old) piece)) buffer.old }
+        ensures value { there result ≡ fetched (Some (piece_block (plan self.now) (D.meaning deck.old) piece)) (length buffer.old) }
+        ensures bytes { buffer.new ≡ filled (Some (piece_block (plan self.now) (D.meaning deck.old) piece)) buffer.old }
     {
         let kind = fetch_from(deck, self.source_of(piece), buffer)?;
         if let Kind::Record(size) = kind {

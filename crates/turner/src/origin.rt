@@ -2,7 +2,8 @@
 ghost use Rattle.std.specs.Prelude.{◌≡◌};
 ghost use Rattle.reader.specs.Finding.{band_file};
 ghost use Rattle.turner.specs.Changes.{code_at};
-ghost use Rattle.turner.specs.Shown.{code_of, line_of, line_origin, origin_at, record_spot, attribute_type, sheet, source};
+ghost use Rattle.turner.specs.Shapes.{plan};
+ghost use Rattle.turner.specs.Shown.{code_of, line_of, line_origin, origin_at, record_spot, attribute_type, recipe_of, recipe, sheet, source};
 
 use super::piece::Piece;
 use super::shape::{Order, Turning};
@@ -66,7 +67,7 @@ impl Turning {
 
     // The type of an attribute record behind the header.
     fn attribute_type(&self, number: u32) -> u8
-        ensures { result ≡ attribute_type self.now number }
+        ensures { result ≡ attribute_type (plan self.now) number }
     {
         if number <= 1 + self.accepted.summary.layout.ancillaries() {
             ANCILLARY
@@ -77,7 +78,7 @@ impl Turning {
 
     // Where a line of a band comes from: a band that is not present has zeros.
     fn line_origin(&self, band: u8, line: u32) -> Origin
-        ensures { result ≡ line_origin self.now (band_file self.now.accepted band) line }
+        ensures { result ≡ line_origin (plan self.now) (band_file self.now.accepted band) line }
     {
         match band_file(&self.accepted, band) {
             Some(file) => origin_at(line_spot(&file, self.accepted.summary.layout, line)),
@@ -87,7 +88,7 @@ impl Turning {
 
     // A record of the length of every record but a directory.
     fn record(&self, kind: u8, number: u32, origin: Origin) -> Source
-        ensures { result ≡ sheet self.now kind number origin }
+        ensures { recipe_of result ≡ sheet (plan self.now) kind number origin }
     {
         Source {
             kind,
@@ -99,7 +100,7 @@ impl Turning {
 
     // The record of a piece. A mark has none.
     pub(crate) fn source_of(&self, piece: Piece) -> Option<Source>
-        ensures { result ≡ source self.now piece }
+        ensures { recipe result ≡ source (plan self.now) piece }
     {
         let group = self.first_group();
         match piece {

@@ -1,6 +1,7 @@
 // The pieces of the reel that is shown.
 ghost use Rattle.std.specs.Prelude.{◌≡◌};
 ghost use Rattle.turner.specs.Pieces.{piece_in, piece_behind, piece_at, piece_on};
+ghost use Rattle.turner.specs.Shapes.{plan};
 
 use super::shape::Turning;
 
@@ -19,7 +20,7 @@ pub enum Piece {
 impl Turning {
     // The piece at a place, counted from 0, of a group.
     fn piece_in(&self, group: u32, at: u32) -> Piece
-        ensures { result ≡ piece_in self.now group at }
+        ensures { result ≡ piece_in (plan self.now) group at }
     {
         let sheets = self.accepted.summary.layout.attributes();
         let images = sheets + 1 + self.images();
@@ -42,7 +43,7 @@ impl Turning {
 
     // The piece at a place, counted from 0, behind the directory's mark.
     fn piece_behind(&self, at: u32) -> Option<Piece>
-        ensures { result ≡ piece_behind self.now at }
+        ensures { result ≡ piece_behind (plan self.now) at }
     {
         let length = self.accepted.summary.layout.attributes()
             + 1
@@ -62,7 +63,7 @@ impl Turning {
 
     // The piece at a block, counted from 1.
     fn piece_at(&self, block: u32) -> Option<Piece>
-        ensures { result ≡ piece_at self.now block }
+        ensures { result ≡ piece_at (plan self.now) block }
     {
         match block {
             0 => None,
@@ -74,7 +75,7 @@ impl Turning {
 
     // The piece at a block of a reel. There is one reel.
     pub(crate) fn piece_on(&self, reel: u32, block: u32) -> Option<Piece>
-        ensures { result ≡ piece_on self.now reel block }
+        ensures { result ≡ piece_on (plan self.now) reel block }
     {
         if reel == 1 {
             self.piece_at(block)

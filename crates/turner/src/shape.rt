@@ -53,11 +53,11 @@ impl Order {
 }
 
 impl Turning {
-    ghost use Rattle.turner.specs.Shapes.{turning_of, groups, images, trailers};
+    ghost use Rattle.turner.specs.Shapes.{plan, planned, turning_of, groups, images, trailers};
 
     // What is remembered of an accepted set: nothing where it is not turned.
     pub(crate) fn of(accepted: Accepted) -> Option<Self>
-        ensures { result ≡ turning_of accepted }
+        ensures { planned result ≡ turning_of accepted }
     {
         let order = Order::other(accepted.summary.layout.form)?;
         if small(&accepted) {
@@ -76,7 +76,7 @@ impl Turning {
 
     // How many groups are shown.
     pub(crate) fn groups(&self) -> u32
-        ensures { result ≡ groups self.now }
+        ensures { result ≡ groups (plan self.now) }
     {
         match self.order {
             Order::ByLine => 1,
@@ -86,7 +86,7 @@ impl Turning {
 
     // How many image blocks each of them has.
     pub(crate) fn images(&self) -> u32
-        ensures { result ≡ images self.now }
+        ensures { result ≡ images (plan self.now) }
     {
         let summary = self.accepted.summary;
         match self.order {
@@ -97,7 +97,7 @@ impl Turning {
 
     // How many trailers.
     pub(crate) fn trailers(&self) -> u32
-        ensures { result ≡ trailers self.now }
+        ensures { result ≡ trailers (plan self.now) }
     {
         self.first_group().trailers
     }

@@ -1,8 +1,9 @@
 // The turner as a deck.
 ghost use Rattle.std.specs.Prelude.{◌≡◌};
 ghost use Rattle.turner.specs.Laws.{Kept};
+ghost use Rattle.turner.specs.Shapes.{planned};
 ghost use Rattle.turner.specs.Shown.{shown, turned};
-ghost use Rattle.turner.specs.Sounds.{shown_sound};
+ghost use Rattle.turner.specs.Sounds.{planned_sound};
 
 use super::delivery::kind_from;
 use super::shape::Turning;
@@ -20,7 +21,7 @@ impl<D: Deck> Turner<D> {
     // A turner by what a survey of the deck finds.
     fn surveyed(deck: D) -> Self
         ensures keeps { D.meaning result.deck ≡ D.meaning deck }
-        ensures means { shown result.turning (D.meaning result.deck) ≡ turned (D.meaning deck) }
+        ensures means { shown (planned result.turning) (D.meaning result.deck) ≡ turned (D.meaning deck) }
     {
         let mut deck = deck;
         let turning = survey(&mut deck).ok().and_then(Turning::of);
@@ -30,7 +31,7 @@ impl<D: Deck> Turner<D> {
     // A turner over a deck, which is surveyed. It shows the set turned, which keeps an accepted set accepted and its picture as it is.
     pub fn new(deck: D) -> Self
         ensures keeps { D.meaning result.deck ≡ D.meaning deck }
-        ensures means { shown result.turning (D.meaning result.deck) ≡ turned (D.meaning deck) }
+        ensures means { shown (planned result.turning) (D.meaning result.deck) ≡ turned (D.meaning deck) }
         ensures law { Kept (D.meaning deck) }
     {
         Turner::surveyed(deck)
@@ -45,9 +46,9 @@ impl<D: Deck> Turner<D> {
 }
 
 impl<D: Deck> Deck for Turner<D> {
-    ghost meaning = { λ t. shown t.turning (D.meaning t.deck) };
+    ghost meaning = { λ t. shown (planned t.turning) (D.meaning t.deck) };
 
-    ghost sound = { λ t. shown_sound t.turning (D.meaning t.deck) (D.sound t.deck) };
+    ghost sound = { λ t. planned_sound t.turning (D.meaning t.deck) (D.sound t.deck) };
 
     fn reels(&mut self) -> u32 {
         match self.turning {
