@@ -73,6 +73,9 @@ module _ (i a m n : ℕ) (some : 1 ≤ a) where
       (cond (nat_lt q (a + 1 + m + 1 + n)) (Trailer (q - (a + 1 + m)))
       Mark)))))
 
+  is_header : piece_of 0 ≡ Header i
+  is_header = refl
+
   is_attribute : (q : ℕ) → 0 < q → q < a → piece_of q ≡ Attribute (q + 1)
   is_attribute q l h = grind (arith, nat_tests)
 
