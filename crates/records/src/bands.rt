@@ -32,7 +32,7 @@ pub fn weight(place: u32) -> u8
 pub fn present(mask: u8, place: u32) -> bool
     ensures { result ≡ present mask place }
 {
-    mask & weight(place) != 0
+    mask / weight(place) % 2 == 1
 }
 
 impl Bands {
