@@ -4,7 +4,7 @@ use Rattle.deck.specs.Answers.{kind_of}
 use Rattle.deck.specs.Tape.{Reel, nth, from_one}
 use Rattle.deck.specs.declared.Kind.{Kind}
 use Rattle.listing.specs.Blocks.{block_kind, run_text, runs_text}
-use Rattle.listing.proofs.Reels.{some_kind, inside, past, alike_same, alike_differ}
+use Rattle.listing.proofs.Reels.{behind, some_kind, inside, past, alike_same, alike_differ}
 
 same_run : (xs : Reel) (i n : ℕ) (k : Kind ℕ) → kind_of (nth xs i) ≡ Some k → kind_of (nth xs (suc i)) ≡ Some k → runs_text n (drop i xs) ≡ runs_text (n + 1) (drop (suc i) xs)
 same_run [] i n k here next = cc
@@ -41,10 +41,6 @@ pub record Going (xs : Reel) (blocks count : ℕ) (kind : Option (Kind ℕ)) (te
   pub few : count ≤ blocks
   pub next : kind ≡ kind_of (from_one xs (blocks + 1))
   pub so_far : text ++ runs_text (count + 1) (drop blocks xs) ≡ runs_text 1 xs
-
--- The block behind the first `n`.
-behind : (xs : Reel) (n : ℕ) → from_one xs (n + 1) ≡ nth xs n
-behind xs n = ap (from_one xs) (add-one n)
 
 pub going_start : (xs : Reel) (kind : Option (Kind ℕ)) (text : List ℕ) → kind ≡ kind_of (from_one xs 1) → text ≡ [] → Going xs 0 0 kind text
 going_start xs kind text e none = record { within = omega arith; few = omega arith; next = e; so_far = ap (λ t. t ++ runs_text 1 xs) none }

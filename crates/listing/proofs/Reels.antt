@@ -1,5 +1,5 @@
 -- A reel of a set, and its blocks.
-use Rattle.std.proofs.Common.{◌≡◌, ℕ, zero, suc, ◌<◌, ◌≤◌, true, false, [], ◌∷◌, length, Some, None, Option, refl, ap, ◌∙◌, arith}
+use Rattle.std.proofs.Common.{◌≡◌, ℕ, zero, suc, ◌+◌, ◌<◌, ◌≤◌, true, false, [], ◌∷◌, length, Some, None, Option, refl, ap, ◌∙◌, add-one, arith}
 use Rattle.std.proofs.lemmas.Bool.{eq-eqb, ne_eqb}
 use Rattle.deck.specs.Answers.{kind_of}
 use Rattle.deck.specs.Tape.{Block, written, mark, bad, Reel, TapeSet, Sound, SoundReels, nth, from_one, look_on, look}
@@ -23,6 +23,10 @@ few_at (reel ∷ set) (suc n) s = few_at set n s.1
 pub few-blocks : (set : TapeSet) (n : ℕ) → Sound set → length (reel_of set n) ≤ 65535
 few-blocks set zero s = omega arith
 few-blocks set (suc n) s = few_at set n s.reels
+
+-- The block behind the first `n`.
+pub behind : (xs : Reel) (n : ℕ) → from_one xs (n + 1) ≡ nth xs n
+behind xs n = ap (from_one xs) (add-one n)
 
 pub some_kind : (b : Block) → kind_of (Some b) ≡ Some (block_kind b)
 some_kind (written bytes) = refl
