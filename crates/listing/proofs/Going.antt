@@ -1,106 +1,86 @@
 -- How far a reel's runs have been written.
-use Rattle.std.proofs.Common.{◌≡◌, ℕ, zero, suc, ◌+◌, ◌-◌, ◌<◌, ◌≤◌, Bool, true, false, cond, List, [], ◌∷◌, ◌++◌, map, length, drop, get_or, Some, Bor, sym, refl, subst, ap, ◌∙◌, append_assoc, append-nil, arith, ◌==◌}
-use Rattle.std.proofs.lemmas.Bool.{eqb-true}
-use Rattle.std.proofs.lemmas.List.{length-map, length-append, drop_at, drop-map}
-use Rattle.std.specs.List.{slice_get, IsChunkByPrefix}
-use Rattle.std.specs.Fn.{ComputesOnPairs}
-use Rattle.std.specs.Iterator.{Yields}
-use Rattle.std.specs.Slice.Iter.{chunk_by_callee, chunk_by_steps}
-use Rattle.std.specs.declared.slice.ChunkBy.{ChunkBy}
-use denote.Param.Members.{Mut}
-use Rattle.deck.specs.Tape.{Block, written, mark, bad, Reel}
+use Rattle.std.proofs.Common.{◌≡◌, ℕ, zero, suc, ◌+◌, ◌≤◌, ◌<◌, cond, List, [], ◌∷◌, ◌++◌, length, drop, Some, None, Option, sym, refl, ap, ◌∙◌, append_assoc, append-nil, add-one, arith}
+use Rattle.deck.specs.Answers.{kind_of}
+use Rattle.deck.specs.Tape.{Reel, nth, from_one}
 use Rattle.deck.specs.declared.Kind.{Kind}
-use Rattle.deck.specs.declared.Kind.TheVariants.{Record, Mark, Bad}
-use Rattle.listing.specs.Blocks.{block_kind, alike, run_text, runs_text}
+use Rattle.listing.specs.Blocks.{block_kind, run_text, runs_text}
+use Rattle.listing.proofs.Reels.{behind, some_kind, inside, past, alike_same, alike_differ}
 
--- Whether two kinds are equal.
-abbrev pub same : Kind ℕ → Kind ℕ → Bool
-same (Record a) (Record b) = a == b
-same (Record a) Mark = false
-same (Record a) Bad = false
-same Mark (Record b) = false
-same Mark Mark = true
-same Mark Bad = false
-same Bad (Record b) = false
-same Bad Mark = false
-same Bad Bad = true
+same_run : (xs : Reel) (i n : ℕ) (k : Kind ℕ) → kind_of (nth xs i) ≡ Some k → kind_of (nth xs (suc i)) ≡ Some k → runs_text n (drop i xs) ≡ runs_text (n + 1) (drop (suc i) xs)
+same_run [] i n k here next = cc
+same_run (b ∷ []) zero n k here next = cc
+same_run (b ∷ c ∷ xs) zero n k here next =
+    let j = some_kind b in
+    let h = some_kind c in
+    ap (λ t. cond t (runs_text (n + 1) (c ∷ xs)) (run_text n (block_kind b) ++ runs_text 1 (c ∷ xs))) (alike_same b c (cc))
+same_run (b ∷ []) (suc i) n k here next = cc
+same_run (b ∷ c ∷ xs) (suc i) n k here next = same_run (c ∷ xs) i n k here next
 
-same_alike : (b c : Block) → alike b c ≡ same (block_kind b) (block_kind c)
-same_alike (written a) (written b) = refl
-same_alike (written a) mark = refl
-same_alike (written a) bad = refl
-same_alike mark (written b) = refl
-same_alike mark mark = refl
-same_alike mark bad = refl
-same_alike bad (written b) = refl
-same_alike bad mark = refl
-same_alike bad bad = refl
+run_ends : (xs : Reel) (i n : ℕ) (k : Kind ℕ) → kind_of (nth xs i) ≡ Some k → (kind_of (nth xs (suc i)) ≡ Some k → ⊥) → runs_text n (drop i xs) ≡ run_text n k ++ runs_text 1 (drop (suc i) xs)
+run_ends [] i n k here ne = cc
+run_ends (b ∷ []) zero n k here ne =
+    let j = some_kind b in
+    let is : block_kind b ≡ k = cc in
+    ap (run_text n) is ∙ sym (append-nil (run_text n k))
+run_ends (b ∷ c ∷ xs) zero n k here ne =
+    let j = some_kind b in
+    let is : block_kind b ≡ k = cc in
+    ap (λ t. cond t (runs_text (n + 1) (c ∷ xs)) (run_text n (block_kind b) ++ runs_text 1 (c ∷ xs))) (alike_differ b c (λ e. ne (some_kind c ∙ ap Some (e ∙ is)))) ∙ ap (λ x. run_text n x ++ runs_text 1 (c ∷ xs)) is
+run_ends (b ∷ []) (suc i) n k here ne = cc
+run_ends (b ∷ c ∷ xs) (suc i) n k here ne = run_ends (c ∷ xs) i n k here ne
 
-same_equal : (j k : Kind ℕ) → same j k ≡ true → j ≡ k
-same_equal (Record a) (Record b) e = ap Record (eqb-true a b e)
-same_equal (Record a) Mark e = cc
-same_equal (Record a) Bad e = cc
-same_equal Mark (Record b) e = cc
-same_equal Mark Mark e = refl
-same_equal Mark Bad e = cc
-same_equal Bad (Record b) e = cc
-same_equal Bad Mark e = cc
-same_equal Bad Bad e = refl
+ended : (xs : Reel) (i n : ℕ) → length xs ≤ i → runs_text n (drop i xs) ≡ []
+ended [] zero n h = refl
+ended [] (suc i) n h = refl
+ended (b ∷ xs) zero n h = absurd (omega arith)
+ended (b ∷ xs) (suc i) n h = ended xs i n (omega arith)
 
--- The text of a reel whose first `suc m` blocks are a run.
-first_run : (xs : Reel) (m n : ℕ) (k : Kind ℕ) → slice_get (map block_kind xs) 0 ≡ Some k → suc m ≤ length xs
-    → ((i : ℕ) (d : Kind ℕ) → suc i ≤ m → same (get_or (map block_kind xs) i d) (get_or (map block_kind xs) (suc i) d) ≡ true)
-    → (suc m < length xs → (d : Kind ℕ) → same (get_or (map block_kind xs) m d) (get_or (map block_kind xs) (suc m) d) ≡ false)
-    → runs_text n xs ≡ run_text (n + m) k ++ runs_text 1 (drop (suc m) xs)
-first_run [] m n k h le along ends = absurd (omega arith)
-first_run (b ∷ []) zero n k h le along ends =
-    let e : block_kind b ≡ k = cc in
-    let none : n ≡ n + 0 = omega arith in
-    ap (run_text n) e ∙ ap (λ o. run_text o k) none ∙ sym (append-nil (run_text (n + 0) k))
-first_run (b ∷ []) (suc m) n k h le along ends = absurd (omega arith)
-first_run (b ∷ c ∷ xs) zero n k h le along ends =
-    let e : block_kind b ≡ k = cc in
-    ap (λ t. cond t (runs_text (n + 1) (c ∷ xs)) (run_text n (block_kind b) ++ runs_text 1 (c ∷ xs))) (same_alike b c ∙ ends (omega arith) k) ∙ ap (λ x. run_text n x ++ runs_text 1 (c ∷ xs)) e
-    ∙ (let none : n ≡ n + 0 = omega arith in ap (λ o. run_text o k ++ runs_text 1 (c ∷ xs)) none)
-first_run (b ∷ c ∷ xs) (suc m) n k h le along ends =
-    let e : block_kind b ≡ k = cc in
-    let equal : block_kind b ≡ block_kind c = same_equal (block_kind b) (block_kind c) (along 0 k (omega arith)) in
-    let more : (n + 1) + m ≡ n + suc m = omega arith in
-    ap (λ t. cond t (runs_text (n + 1) (c ∷ xs)) (run_text n (block_kind b) ++ runs_text 1 (c ∷ xs))) (same_alike b c ∙ along 0 k (omega arith))
-    ∙ first_run (c ∷ xs) m (n + 1) k (ap Some (sym equal ∙ e)) (omega arith) (λ i d l. along (suc i) d (omega arith)) (λ l. ends (omega arith))
-    ∙ ap (λ o. run_text o k ++ runs_text 1 (drop (suc m) (c ∷ xs))) more
+-- The text has the runs of the first `blocks` blocks, but for the last `count` of them, whose run goes on. The block behind them, if there is one, is of the kind `kind`.
+pub record Going (xs : Reel) (blocks count : ℕ) (kind : Option (Kind ℕ)) (text : List ℕ) : Type 0 where
+  pub within : blocks ≤ length xs
+  pub few : count ≤ blocks
+  pub next : kind ≡ kind_of (from_one xs (blocks + 1))
+  pub so_far : text ++ runs_text (count + 1) (drop blocks xs) ≡ runs_text 1 xs
 
--- The text has the runs before the kinds in `rest`.
-abbrev pub Going : List (Kind ℕ) → List (Kind ℕ) → List ℕ → Type 0
-Going kinds rest text = (xs : Reel) → kinds ≡ map block_kind xs → (ys : Reel) × (rest ≡ map block_kind ys) × (text ++ runs_text 1 ys ≡ runs_text 1 xs)
+pub going_start : (xs : Reel) (kind : Option (Kind ℕ)) (text : List ℕ) → kind ≡ kind_of (from_one xs 1) → text ≡ [] → Going xs 0 0 kind text
+going_start xs kind text e none = record { within = omega arith; few = omega arith; next = e; so_far = ap (λ t. t ++ runs_text 1 xs) none }
 
-run_taken : (ys : Reel) (n : ℕ) (k : Kind ℕ) (rest : List (Kind ℕ)) → rest ≡ map block_kind ys → 0 < n → n ≤ length rest → slice_get rest 0 ≡ Some k → IsChunkByPrefix same rest n → runs_text 1 ys ≡ run_text n k ++ runs_text 1 (drop n ys)
-run_taken ys zero k rest e some le first run = absurd (omega arith)
-run_taken ys (suc m) k rest e some le first run =
-    let long : length rest ≡ length ys = ap length e ∙ length-map ys block_kind in
-    first_run ys m 1 k (ap (λ r. slice_get r 0) (sym e) ∙ first) (omega (arith, long))
-    (λ i d l. let next : suc i ≡ i + 1 = omega arith in ap (λ r. same (get_or r i d) (get_or r (suc i) d)) (sym e) ∙ ap (λ j. same (get_or rest i d) (get_or rest j d)) next ∙ run.0 i d (omega arith))
-    (λ l d. let last : m ≡ suc m - 1 = omega arith in ap (λ r. same (get_or r m d) (get_or r (suc m) d)) (sym e) ∙ ap (λ j. same (get_or rest j d) (get_or rest (suc m) d)) last ∙ run.1 (omega (arith, long)) d)
-    ∙ (let one : 1 + m ≡ suc m = omega arith in ap (λ o. run_text o k ++ runs_text 1 (drop (suc m) ys)) one)
+-- A block is next.
+pub going_inside : (xs : Reel) (blocks count : ℕ) (kind : Option (Kind ℕ)) (text : List ℕ) (k : Kind ℕ) → Going xs blocks count kind text → kind ≡ Some k → blocks < length xs
+going_inside xs blocks count kind text k g e = inside xs blocks k (ap kind_of (sym (behind xs blocks)) ∙ sym g.next ∙ e)
 
-front : (run after : List (Kind ℕ)) (k : Kind ℕ) → slice_get run 0 ≡ Some k → slice_get (run ++ after) 0 ≡ Some k
-front [] after k e = cc
-front (x ∷ run) after k e = e
+-- The block behind it goes on with its run.
+pub going_same : (xs : Reel) (blocks count : ℕ) (kind after : Option (Kind ℕ)) (text : List ℕ) (k : Kind ℕ) → Going xs blocks count kind text → kind ≡ Some k → after ≡ kind_of (from_one xs (blocks + 1 + 1)) → after ≡ Some k → Going xs (blocks + 1) (count + 1) after text
+going_same xs blocks count kind after text k g e a same =
+    let here : kind_of (nth xs blocks) ≡ Some k = ap kind_of (sym (behind xs blocks)) ∙ sym g.next ∙ e in
+    let next : kind_of (nth xs (suc blocks)) ≡ Some k = ap kind_of (ap (nth xs) (sym (add-one blocks)) ∙ sym (behind xs (blocks + 1))) ∙ sym a ∙ same in
+    let left = inside xs blocks k here in
+    record {
+      within = omega arith;
+      few = omega (arith, g.few);
+      next = a;
+      so_far = ap (λ i. text ++ runs_text (count + 1 + 1) (drop i xs)) (add-one blocks) ∙ ap (λ t. text ++ t) (sym (same_run xs blocks (count + 1) k here next)) ∙ g.so_far;
+    }
 
-pub going_next : (kinds rest run after : List (Kind ℕ)) (text more : List ℕ) (k : Kind ℕ) → Going kinds rest text → rest ≡ run ++ after → 0 < length run → IsChunkByPrefix same rest (length run) → slice_get run 0 ≡ Some k → more ≡ text ++ run_text (length run) k → Going kinds after more
-going_next kinds rest run after text more k g cut some prefix first m xs h =
-    let before = g xs h in
-    let short : length run ≤ length rest = omega (arith, ap length cut, length-append run after) in
-    let ys = before.0 in (
-      drop (length run) ys,
-      sym (drop_at run after (length run) refl) ∙ ap (drop (length run)) (sym cut ∙ before.1) ∙ drop-map block_kind (length run) ys,
-      ap (λ t. t ++ runs_text 1 (drop (length run) ys)) m
-          ∙ append_assoc text (run_text (length run) k) (runs_text 1 (drop (length run) ys))
-          ∙ ap (λ t. text ++ t) (sym (run_taken ys (length run) k rest before.1 some short (ap (λ r. slice_get r 0) cut ∙ front run after k first) prefix))
-          ∙ before.2,
+-- Its run ends with it.
+pub going_next : (xs : Reel) (blocks count : ℕ) (kind after : Option (Kind ℕ)) (text more : List ℕ) (k : Kind ℕ) → Going xs blocks count kind text → kind ≡ Some k → after ≡ kind_of (from_one xs (blocks + 1 + 1)) → (after ≡ Some k → ⊥) → more ≡ text ++ run_text (count + 1) k → Going xs (blocks + 1) 0 after more
+going_next xs blocks count kind after text more k g e a other m =
+    let here : kind_of (nth xs blocks) ≡ Some k = ap kind_of (sym (behind xs blocks)) ∙ sym g.next ∙ e in
+    let next : after ≡ kind_of (nth xs (suc blocks)) = a ∙ ap kind_of (behind xs (blocks + 1) ∙ ap (nth xs) (add-one blocks)) in
+    let left = inside xs blocks k here in
+    let rest = runs_text 1 (drop (suc blocks) xs) in
+    record {
+      within = omega arith;
+      few = omega arith;
+      next = a;
+      so_far = ap (λ i. more ++ runs_text 1 (drop i xs)) (add-one blocks) ∙ ap (λ t. t ++ rest) m ∙ append_assoc text (run_text (count + 1) k) rest
+          ∙ ap (λ t. text ++ t) (sym (run_ends xs blocks (count + 1) k here (λ o. other (next ∙ o)))) ∙ g.so_far;
+    }
+
+-- No block is next.
+pub going_done : (xs : Reel) (blocks count : ℕ) (kind : Option (Kind ℕ)) (text : List ℕ) → Going xs blocks count kind text → kind ≡ None → (blocks ≡ length xs) × (text ≡ runs_text 1 xs)
+going_done xs blocks count kind text g e =
+    let all = past xs blocks (ap kind_of (sym (behind xs blocks)) ∙ sym g.next ∙ e) in (
+      omega (arith, g.within),
+      sym (append-nil text) ∙ ap (λ t. text ++ t) (sym (ended xs blocks (count + 1) all)) ∙ g.so_far,
     )
-
--- The closure of `chunk_by` computes after some parts what it computed before them.
-pub still_computes : {A F : Type 0} (g : Mut F (Bor A × (Bor A × Unit {0})) Bool) (e : A → A → Bool) (parts : List (Bor (List A))) (s u : ChunkBy A F) → ComputesOnPairs g e (chunk_by_callee s) → Yields (chunk_by_steps g) s parts u → ComputesOnPairs g e (chunk_by_callee u)
-still_computes g e [] s u by y = subst (λ v. ComputesOnPairs g e (chunk_by_callee v)) y by
-still_computes g e (x ∷ parts) s u by y = still_computes g e parts y.0 u (y.1.2 e by).0 y.2

@@ -1,10 +1,10 @@
--- A reel of a set, and how far its blocks have been read.
-use Rattle.std.proofs.Common.{◌≡◌, ℕ, zero, suc, ◌+◌, ◌<◌, ◌≤◌, List, [], ◌∷◌, ◌++◌, map, length, get_or, take, Some, None, Option, sym, refl, ap, ◌∙◌, arith}
-use Rattle.std.proofs.lemmas.List.{map_more, take_all}
+-- A reel of a set, and its blocks.
+use Rattle.std.proofs.Common.{◌≡◌, ℕ, zero, suc, ◌+◌, ◌<◌, ◌≤◌, true, false, [], ◌∷◌, length, Some, None, Option, refl, ap, ◌∙◌, add-one, arith}
+use Rattle.std.proofs.lemmas.Bool.{eq-eqb, ne_eqb}
 use Rattle.deck.specs.Answers.{kind_of}
 use Rattle.deck.specs.Tape.{Block, written, mark, bad, Reel, TapeSet, Sound, SoundReels, nth, from_one, look_on, look}
 use Rattle.deck.specs.declared.Kind.{Kind}
-use Rattle.listing.specs.Blocks.{block_kind, reel_or_none, reel_of}
+use Rattle.listing.specs.Blocks.{block_kind, alike, reel_or_none, reel_of}
 
 on_reel : (o : Option Reel) (block : ℕ) → look_on o block ≡ from_one (reel_or_none o) block
 on_reel None zero = refl
@@ -24,42 +24,43 @@ pub few-blocks : (set : TapeSet) (n : ℕ) → Sound set → length (reel_of set
 few-blocks set zero s = omega arith
 few-blocks set (suc n) s = few_at set n s.reels
 
-some_kind : (b : Block) → kind_of (Some b) ≡ Some (block_kind b)
+-- The block behind the first `n`.
+pub behind : (xs : Reel) (n : ℕ) → from_one xs (n + 1) ≡ nth xs n
+behind xs n = ap (from_one xs) (add-one n)
+
+pub some_kind : (b : Block) → kind_of (Some b) ≡ Some (block_kind b)
 some_kind (written bytes) = refl
 some_kind mark = refl
 some_kind bad = refl
 
-there : (xs : Reel) (n : ℕ) (k : Kind ℕ) → kind_of (nth xs n) ≡ Some k → (n < length xs) × (block_kind (get_or xs n mark) ≡ k)
-there [] n k e = cc
-there (x ∷ xs) zero k e = let s = some_kind x in (omega arith, cc)
-there (x ∷ xs) (suc n) k e = let h = there xs n k e in (omega (arith, h.0), h.1)
+pub inside : (xs : Reel) (n : ℕ) (k : Kind ℕ) → kind_of (nth xs n) ≡ Some k → n < length xs
+inside [] n k e = cc
+inside (x ∷ xs) zero k e = omega arith
+inside (x ∷ xs) (suc n) k e = let h = inside xs n k e in omega (arith, h)
 
-past : (xs : Reel) (n : ℕ) → kind_of (nth xs n) ≡ None → length xs ≤ n
+pub past : (xs : Reel) (n : ℕ) → kind_of (nth xs n) ≡ None → length xs ≤ n
 past [] n e = omega arith
 past (x ∷ xs) zero e = let s = some_kind x in cc
 past (x ∷ xs) (suc n) e = let h = past xs n e in omega (arith, h)
 
--- The kinds are those of the blocks before the block `block`.
-pub record Read (xs : Reel) (block : ℕ) (kinds : List (Kind ℕ)) : Type 0 where
-  pub at : ℕ
-  pub is : block ≡ suc at
-  pub so_far : kinds ≡ map block_kind (take at xs)
+pub alike_same : (b c : Block) → block_kind c ≡ block_kind b → alike b c ≡ true
+alike_same (written a) (written b) e = eq-eqb (length a) (length b) (cc)
+alike_same (written a) mark e = cc
+alike_same (written a) bad e = cc
+alike_same mark (written b) e = cc
+alike_same mark mark e = refl
+alike_same mark bad e = cc
+alike_same bad (written b) e = cc
+alike_same bad mark e = cc
+alike_same bad bad e = refl
 
-pub read_start : (xs : Reel) (kinds : List (Kind ℕ)) → kinds ≡ [] → Read xs 1 kinds
-read_start xs kinds e = record { at = 0; is = refl; so_far = e }
-
-pub read_next : (xs : Reel) (block : ℕ) (kinds after : List (Kind ℕ)) (k : Kind ℕ) → Read xs block kinds → Some k ≡ kind_of (from_one xs block) → after ≡ kinds ++ k ∷ [] → Read xs (block + 1) after
-read_next xs block kinds after k r e a =
-    let h = there xs r.at k (ap (λ b. kind_of (from_one xs b)) (sym r.is) ∙ sym e) in
-    record {
-      at = r.at + 1;
-      is = omega (arith, r.is);
-      so_far = a ∙ ap (λ ks. ks ++ k ∷ []) r.so_far ∙ ap (λ x. map block_kind (take r.at xs) ++ x ∷ []) (sym h.1) ∙ sym (map_more block_kind xs r.at mark h.0);
-    }
-
--- No block is left.
-pub read_done : (xs : Reel) (block : ℕ) (kinds : List (Kind ℕ)) → Read xs block kinds → None ≡ kind_of (from_one xs block) → kinds ≡ map block_kind xs
-read_done xs block kinds r e = r.so_far ∙ ap (map block_kind) (take_all r.at xs (past xs r.at (ap (λ b. kind_of (from_one xs b)) (sym r.is) ∙ sym e)))
-
-pub read_all : (xs : Reel) (block : ℕ) (kinds : List (Kind ℕ)) → Read xs block kinds → length xs < block → kinds ≡ map block_kind xs
-read_all xs block kinds r h = r.so_far ∙ ap (map block_kind) (take_all r.at xs (omega (arith, r.is)))
+pub alike_differ : (b c : Block) → (block_kind c ≡ block_kind b → ⊥) → alike b c ≡ false
+alike_differ (written a) (written b) ne = ne_eqb (length a) (length b) (λ e. ne (cc))
+alike_differ (written a) mark ne = refl
+alike_differ (written a) bad ne = refl
+alike_differ mark (written b) ne = refl
+alike_differ mark mark ne = absurd (ne refl)
+alike_differ mark bad ne = refl
+alike_differ bad (written b) ne = refl
+alike_differ bad mark ne = refl
+alike_differ bad bad ne = absurd (ne refl)

@@ -1,9 +1,8 @@
 // A reel as runs of equal blocks.
-ghost use Rattle.std.specs.Prelude.{◌≡◌, map, IfOk, string_bytes};
-ghost use Rattle.deck.specs.Tape.{Reel};
-ghost use Rattle.listing.specs.Blocks.{noun_for, block_kind, run_text, runs_text, reel_text, reel_of};
+ghost use Rattle.std.specs.Prelude.{◌≡◌, length, IfOk, string_bytes};
+ghost use Rattle.listing.specs.Blocks.{noun_for, run_text, runs_text, reel_text, reel_of};
 
-use deck::{Deck, Kind, MOST_BLOCKS};
+use deck::{Deck, Kind};
 use std::alloc::{AllocError, Global};
 
 // The word for so many.
@@ -30,43 +29,44 @@ fn run_line(heap: Global, count: usize, kind: Kind<usize>) -> Result<String, All
     }
 }
 
-// The kinds of the blocks of a reel. They are read once into memory, at most 65,535 of them.
-fn kinds<D: Deck>(heap: Global, deck: &mut D, reel: u32) -> Result<Vec<Kind<usize>>, AllocError>
-    ensures stays { D.meaning deck.new ≡ D.meaning deck.old }
-    ensures value { IfOk result (λ v. v.items ≡ map block_kind (reel_of (D.meaning deck.old) reel)) }
-{
-    let mut kinds = Vec::new(heap);
-    for block in 1..=MOST_BLOCKS {
-        let Some(kind) = deck.kind(reel, block) else {
-            break;
-        };
-        kinds.push(kind)?;
-    }
-    Ok(kinds)
+// How many blocks a reel has, and the lines of its runs.
+struct Runs {
+    blocks: u32,
+    text: String,
 }
 
-// The lines of the runs of blocks of these kinds. No run is empty, so each has a first kind.
-fn runs(heap: Global, kinds: &[Kind<usize>]) -> Result<String, AllocError>
-    ensures { (reel : Reel) → kinds.now ≡ map block_kind reel → IfOk result (λ t. string_bytes t ≡ runs_text 1 reel) }
+// The runs of a reel. The deck is asked once for each block and once behind the last, and memory is taken for the text alone.
+fn runs_of<D: Deck>(heap: Global, deck: &mut D, reel: u32) -> Result<Runs, AllocError>
+    ensures stays { D.meaning deck.new ≡ D.meaning deck.old }
+    ensures blocks { IfOk result (λ r. r.blocks ≡ length (reel_of (D.meaning deck.old) reel)) }
+    ensures text { IfOk result (λ r. string_bytes r.text ≡ runs_text 1 (reel_of (D.meaning deck.old) reel)) }
 {
     let mut text = String::new(heap);
-    for run in kinds.chunk_by(|one, next| one == next) {
-        if let Some(kind) = run.first() {
-            let line = run_line(heap, run.len(), *kind)?;
+    let mut blocks = 0;
+    let mut count = 0;
+    let mut kind = deck.kind(reel, 1);
+    while let Some(run) = kind {
+        blocks += 1;
+        count += 1;
+        kind = deck.kind(reel, blocks + 1);
+        if kind != Some(run) {
+            let line = run_line(heap, count, run)?;
             text.push_str(line.as_str())?;
+            count = 0;
         }
     }
-    Ok(text)
+    Ok(Runs { blocks, text })
 }
 
-// A reel by its number. `stays`, here and at `kinds`, is the deck's own clause, said of this call.
+// A reel by its number. `stays`, here and at `runs_of`, is the deck's own clause, said of this call.
 pub fn reel_listing<D: Deck>(heap: Global, deck: &mut D, reel: u32) -> Result<String, AllocError>
     ensures stays { D.meaning deck.new ≡ D.meaning deck.old }
     ensures text { IfOk result (λ t. string_bytes t ≡ reel_text reel (reel_of (D.meaning deck.old) reel)) }
 {
-    let kinds = kinds(heap, deck, reel)?;
-    let count = kinds.len();
-    let blocks = noun(count, "block", "blocks");
-    let runs = runs(heap, kinds.as_slice())?;
+    let Runs {
+        blocks: count,
+        text: runs,
+    } = runs_of(heap, deck, reel)?;
+    let blocks = noun(count as usize, "block", "blocks");
     format!(in heap; "reel {reel}: {count} {blocks}\n{runs}")
 }

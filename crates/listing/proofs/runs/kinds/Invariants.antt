@@ -1,7 +1,0 @@
-use Rattle.std.proofs.Common.{◌≡◌, vec_items}
-use Rattle.listing.specs.Blocks.{reel_of}
-use Rattle.listing.proofs.Reels.{Read}
-use Rattle.listing.proofs.runs.kinds.Given as goal
-
-abbrev pub invariant-loop-block : goal.invariant-loop-block
-invariant-loop-block g l = (g.D.Deck.meaning l.deck ≡ g.D.Deck.meaning l.initial.deck) × Read (reel_of (g.D.Deck.meaning l.initial.deck) l.reel) l.block (vec_items l.kinds)
