@@ -1,5 +1,5 @@
 // The bands that are present, and the byte by which a header tells them.
-ghost use Rattle.std.specs.Prelude.{◌≡◌};
+ghost use Rattle.std.specs.Prelude.{◌≡◌, ◌+◌, ◌<◌};
 ghost use Rattle.records.specs.Bands.{weight, present, one_band, more_bands, no_bands};
 
 use super::header::Content;
@@ -35,6 +35,14 @@ pub fn present(mask: u8, place: u32) -> bool
     mask / weight(place) % 2 == 1
 }
 
+// The code of the scanner's band at a place.
+fn code_at(place: u8) -> u8
+    requires { place < 5 }
+    ensures { result ≡ 4 + place }
+{
+    4 + place
+}
+
 impl Bands {
     pub fn new() -> Self
         ensures { result ≡ no_bands }
@@ -64,7 +72,7 @@ impl Bands {
             Content::Mixed(mask) => {
                 for place in 0..5u8 {
                     if present(mask, u32::from(place)) {
-                        self.add(4 + place);
+                        self.add(code_at(place));
                     }
                 }
             }
