@@ -1,4 +1,5 @@
-use Rattle.std.proofs.Common.{◌≡◌, length, sym, ap, ◌∙◌, arith}
+use Rattle.std.proofs.Common.{◌≡◌, length, sym, ap, ◌∙◌, arith, rules}
+use Rattle.reader.specs.Bodies.{told, told_delivery, line_answer}
 use Rattle.listing.specs.Tapes.{readable}
 use Rattle.listing.proofs.Readable.{few-readable, one_more, none_more}
 use Rattle.listing.proofs.bands.readable.Goals as goal
@@ -15,15 +16,16 @@ returns-after-is_ok-clause-value g c =
     let now = g.D.Deck.meaning c.loop-line.reader.deck in
     let m = c.args.reader.now.accepted in
     let end : c.loop-line.line ≡ c.args.lines = omega arith in
+    let says : told c.line.result ≡ told_delivery (line_answer now c.loop-line.reader.accepted c.args.code c.loop-line.line (length c.loop-line.buffer)) = search rules in
     elim c.if-is_ok.branch [
       | then-is_ok w ↦
           w.count-is
-          ∙ one_more set now m c.loop-line.reader.accepted c.args.code c.loop-line.line (length c.loop-line.buffer) c.loop-line.count c.line.result c.loop-line.invariant.0 c.loop-line.invariant.1 c.loop-line.invariant.2 c.line.ensures.says c.loop-line.invariant.4
+          ∙ one_more set now m c.loop-line.reader.accepted c.args.code c.loop-line.line (length c.loop-line.buffer) c.loop-line.count c.line.result c.loop-line.invariant.0 c.loop-line.invariant.1 c.loop-line.invariant.2 says c.loop-line.invariant.4
           (sym c.is_ok.ensures.value ∙ w.if-is_ok.true)
           ∙ ap (readable set m c.args.code) end
       | else-is_ok w ↦
           w.count-is
-          ∙ none_more set now m c.loop-line.reader.accepted c.args.code c.loop-line.line (length c.loop-line.buffer) c.loop-line.count c.line.result c.loop-line.invariant.0 c.loop-line.invariant.1 c.loop-line.invariant.2 c.line.ensures.says c.loop-line.invariant.4
+          ∙ none_more set now m c.loop-line.reader.accepted c.args.code c.loop-line.line (length c.loop-line.buffer) c.loop-line.count c.line.result c.loop-line.invariant.0 c.loop-line.invariant.1 c.loop-line.invariant.2 says c.loop-line.invariant.4
           (sym c.is_ok.ensures.value ∙ w.if-is_ok.false)
           ∙ ap (readable set m c.args.code) end
     ]
