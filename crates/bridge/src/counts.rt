@@ -3,8 +3,9 @@ ghost use Rattle.std.specs.Prelude.{◌≡◌, ◌⊎◌, cond, length};
 ghost use Rattle.deck.specs.Answers.{filled};
 ghost use Rattle.deck.specs.Tape.{look};
 ghost use Rattle.reader.specs.Bodies.{line_answer, buffer_after};
-ghost use Rattle.bridge.specs.Counts.{after_surveys, one_if, delivered_of, after_lines, one_if_record, counting, lines_of, blocks_of, lines_in, blocks_in};
+ghost use Rattle.bridge.specs.Counts.{after_surveys, one_if, delivered_of, after_lines, one_if_record, counting, lines_of, blocks_of, blocks_through, lines_in, blocks_in};
 
+use super::either::Either;
 use super::stored::{opened, piled};
 use deck::{Deck, Kind};
 use reader::Reader;
@@ -98,8 +99,25 @@ fn blocks_of<D: Deck + Drop>(deck: D, blocks: &[WantedBlock], buffer: &mut [u8])
     count
 }
 
+// How many of the blocks are records, through so many turners piled on a deck.
+fn blocks_through<D: Deck + Drop>(
+    turners: u8,
+    deck: D,
+    blocks: &[WantedBlock],
+    buffer: &mut [u8],
+) -> u64
+    ensures { counting result buffer.new ≡ blocks_through turners blocks.now buffer.old (D.meaning deck) }
+{
+    match piled(turners, deck) {
+        Either::Left(deck) => blocks_of(deck, blocks, buffer),
+        Either::Right(Either::Left(deck)) => blocks_of(deck, blocks, buffer),
+        Either::Right(Either::Right(deck)) => blocks_of(deck, blocks, buffer),
+    }
+}
+
 // Opens an image, surveys it so many times, and reads lines from it into one buffer. Answers how many were delivered. C has a name for
-// each of two functions, this one and that for blocks; what they share is in `opened`.
+// each of two functions, this one and that for blocks; what they share is in `opened`. Which deck it is is asked here and above once, and not at
+// each block: where nothing is copied, as of a mark, asking takes as long as the fetch.
 #[unsafe(no_mangle)]
 pub extern "C" fn gehunlo_lines(
     heap: Global,
@@ -115,7 +133,8 @@ pub extern "C" fn gehunlo_lines(
         return NO_MEMORY;
     };
     match opened(form, bytes) {
-        Ok(deck) => lines_of(deck, surveys, lines, buffer),
+        Ok(Either::Left(strip)) => lines_of(strip, surveys, lines, buffer),
+        Ok(Either::Right(indexed)) => lines_of(indexed, surveys, lines, buffer),
         Err(_) => 0,
     }
 }
@@ -136,7 +155,8 @@ pub extern "C" fn gehunlo_blocks(
         return NO_MEMORY;
     };
     match opened(form, bytes) {
-        Ok(deck) => blocks_of(piled(turners, deck), blocks, buffer),
+        Ok(Either::Left(strip)) => blocks_through(turners, strip, blocks, buffer),
+        Ok(Either::Right(indexed)) => blocks_through(turners, indexed, blocks, buffer),
         Err(_) => 0,
     }
 }

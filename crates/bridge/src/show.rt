@@ -1,10 +1,11 @@
 // Blocks as a deck shows them.
 ghost use Rattle.std.specs.Prelude.{◌≡◌, ◌⊎◌, length, IfOk};
 ghost use Rattle.bridge.specs.Answers.{sending, Put};
-ghost use Rattle.bridge.specs.Shows.{kind_number, fetch_number, words_of, buffer_of, sent_of, shown};
+ghost use Rattle.bridge.specs.Shows.{kind_number, fetch_number, words_of, buffer_of, sent_of, piled, shown};
 
 use super::buffers::buffer;
 use super::calls::put;
+use super::either::Either;
 use super::stored::{opened, piled};
 use super::words::{Told, tell_closed};
 use deck::{Deck, Kind, Short};
@@ -78,6 +79,22 @@ fn asked_of<D: Deck + Drop>(heap: Global, deck: D, fetches: &[Fetch]) -> Result<
     Ok(told)
 }
 
+// Asks for blocks through so many turners piled on a deck. Which deck it is is asked here and below once, and not at each block.
+fn through<D: Deck + Drop>(
+    heap: Global,
+    turners: u8,
+    deck: D,
+    fetches: &[Fetch],
+) -> Result<Told, AllocError>
+    ensures { IfOk result (λ t. sending t ≡ sent_of (piled turners (D.meaning deck)) fetches.now) }
+{
+    match piled(turners, deck) {
+        Either::Left(deck) => asked_of(heap, deck, fetches),
+        Either::Right(Either::Left(deck)) => asked_of(heap, deck, fetches),
+        Either::Right(Either::Right(deck)) => asked_of(heap, deck, fetches),
+    }
+}
+
 // Opens an image and asks it for blocks through turners.
 fn shown(
     heap: Global,
@@ -89,7 +106,8 @@ fn shown(
     ensures { IfOk result (λ t. sending t ≡ shown form turners image.now fetches.now) }
 {
     match opened(form, Vec::from_slice(heap, image)?) {
-        Ok(deck) => asked_of(heap, piled(turners, deck), fetches),
+        Ok(Either::Left(strip)) => through(heap, turners, strip, fetches),
+        Ok(Either::Right(indexed)) => through(heap, turners, indexed, fetches),
         Err(unopened) => tell_closed(heap, unopened.refusal),
     }
 }
