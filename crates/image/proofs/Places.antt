@@ -175,11 +175,11 @@ reads s = record { judged = is_set (verdict (vec_items s.bytes)) s.judged; spell
 pub stands : (s : Strip) → Stands (vec_items s.bytes) s.cursor
 stands s = record { on_reel = s.on_reel; on_block = s.on_block; here = s.here }
 
-pub on_there : (s : Strip) → s.cursor.block < length (slice_index_or (strip_set s) s.cursor.reel []) → On (vec_items s.bytes) s.cursor (block_on (vec_items s.bytes) s.cursor)
-on_there s = stands_on (vec_items s.bytes) s.cursor (reads s) (stands s)
+pub on_there : (s : Strip) (c : Cursor) → Stands (vec_items s.bytes) c → c.block < length (slice_index_or (strip_set s) c.reel []) → On (vec_items s.bytes) c (block_on (vec_items s.bytes) c)
+on_there s c h = stands_on (vec_items s.bytes) c (reads s) h
 
-pub behind_there : (s : Strip) → 0 < s.cursor.block → Behind (vec_items s.bytes) s.cursor (block_behind (vec_items s.bytes) s.cursor)
-behind_there s = stands_behind (vec_items s.bytes) s.cursor (reads s) (stands s)
+pub behind_there : (s : Strip) (c : Cursor) → Stands (vec_items s.bytes) c → 0 < c.block → Behind (vec_items s.bytes) c (block_behind (vec_items s.bytes) c)
+behind_there s c h = stands_behind (vec_items s.bytes) c (reads s) h
 
 -- What is found at a block's place is the block.
 found_as : (xs : List ℕ) (at : ℕ) (b : Block) → BlockAt xs at b → lent xs (at + 4) (stored_as b) ≡ Some b
@@ -207,5 +207,5 @@ looked set reel block r b hr hb on_reel on_block =
 -- What is found where the cursor stands is the block that was asked for.
 pub found_there : (s : Strip) (reel block : ℕ) → (1 ≤ reel) × (s.cursor.reel ≡ reel - 1) → (1 ≤ block) × (s.cursor.block ≡ block - 1) → s.cursor.block < length (slice_index_or (strip_set s) s.cursor.reel []) → block_at_word (vec_items s.bytes) s.cursor.at ≡ look (strip_set s) reel block
 found_there s reel block hr hb inside =
-    found_block (vec_items s.bytes) s.cursor.at (block_on (vec_items s.bytes) s.cursor) (on_there s inside).there
+    found_block (vec_items s.bytes) s.cursor.at (block_on (vec_items s.bytes) s.cursor) (on_there s s.cursor (stands s) inside).there
     ∙ sym (looked (strip_set s) reel block s.cursor.reel s.cursor.block hr hb s.on_reel inside)
