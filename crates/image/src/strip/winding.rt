@@ -7,8 +7,8 @@ use super::super::cursor::{Cursor, block_at};
 use super::super::scan::size;
 use super::Strip;
 
-// A cursor is taken and given here, and the strip's own is written once, when it is there: one that each step wrote into the strip took a strip of
-// short blocks twice the time. So that a cursor stands on the strip is said of each.
+// A cursor is taken and given here, and the strip keeps the last one: written into the strip at each step, the way over short blocks took a quarter
+// more time. So that a cursor stands on the strip is said of each method.
 impl Strip {
     // A place on a reel to wind from: the strip's cursor, or the reel's beginning.
     #[tactic(auto, using(crate::proofs::Charts::reels_counted, crate::proofs::Charts::charted_span))]
