@@ -116,8 +116,8 @@ fn blocks_through<D: Deck + Drop>(
 }
 
 // Opens an image, surveys it so many times, and reads lines from it into one buffer. Answers how many were delivered. C has a name for
-// each of two functions, this one and that for blocks; what they share is in `opened`. Which deck it is is asked here and above once, and not at
-// each block: where nothing is copied, as of a mark, asking takes as long as the fetch.
+// each of two functions, this one and that for blocks; what they share is in `opened`. Both ask once what `opened` and `piled` have made, and not
+// at each line or block: where nothing is copied, as of a mark, asking takes as long as the fetch.
 #[unsafe(no_mangle)]
 pub extern "C" fn gehunlo_lines(
     heap: Global,

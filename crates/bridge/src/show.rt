@@ -79,7 +79,7 @@ fn asked_of<D: Deck + Drop>(heap: Global, deck: D, fetches: &[Fetch]) -> Result<
     Ok(told)
 }
 
-// Asks for blocks through so many turners piled on a deck. Which deck it is is asked here and below once, and not at each block.
+// Asks for blocks through so many turners piled on a deck. What `piled` has made is asked once, and not at each block; so in `shown` with `opened`.
 fn through<D: Deck + Drop>(
     heap: Global,
     turners: u8,

@@ -18,7 +18,7 @@ same_answer = result_eq (answers.ghosts).eq (refusals.ghosts).eq
 abbrev pub same_answered : Answered → Answered → Bool
 same_answered = eq_of_both (on (λ a. a.answer) same_answer) (on (λ a. a.buffer.items) (pointwise ◌==◌))
 
--- It holds both ways round, and along a chain: of results, by what holds of their two sides, and so of answers.
+-- It holds both ways round, and along a chain. Of results, where it does so of both of their sides:
 module _ {T X : Type 0} {E : T → T → Bool} {F : X → X → Bool} (e : IsPartialEquivalence E) (f : IsPartialEquivalence F) where
   both_ways : (x y : Result T X) → result_eq E F x y ≡ result_eq E F y x
   both_ways (Ok x) (Ok y) = e.symm x y
@@ -39,5 +39,6 @@ module _ {T X : Type 0} {E : T → T → Bool} {F : X → X → Bool} (e : IsPar
   results_per : IsPartialEquivalence (result_eq E F)
   results_per = record { symm = both_ways; trans = along }
 
+-- and of answers, by the law of their derived `==`.
 pub compares : IsPartialEquivalence same_answered
 compares = answered_laws.laws-law
